@@ -1,0 +1,37 @@
+// Writing into a lent buffer.
+ghost use mathlib.Core.Path.{_≡_};
+ghost use lib.ListN.{length};
+ghost use Rattle.buffer.specs.Buffer.{after, behind, zeros};
+
+// Copies src into dst from index at on, through the part of dst that starts there, and answers the
+// index behind it. Where src does not fit there nothing is written, and the answer is at.
+pub fn put(dst: &mut [u8], at: usize, src: &[u8]) -> usize
+    ensures { λ r. ⌜ (r ≡ behind at (now (src .entry)) (now (dst .entry))) × (now (dst .exit) ≡ after at (now (src .entry)) (now (dst .entry))) ⌝ }
+{
+    if dst.len() < at {
+        return at;
+    }
+    if dst.len() - at < src.len() {
+        return at;
+    }
+    bytes::copy(src, &mut dst[at..]);
+    at + src.len()
+}
+
+// Makes every byte of dst zero.
+pub fn clear(dst: &mut [u8])
+    ensures { λ _. ⌜ now (dst .exit) ≡ zeros (length (now (dst .entry))) ⌝ }
+{
+    let mut i = 0;
+    while i < dst.len() {
+        dst[i] = 0;
+        i += 1;
+    }
+}
+
+// 48 zero bytes: an empty place of a secret.
+pub fn zeros48() -> [u8; 48]
+    ensures { λ r. ⌜ r ≡ zeros 48 ⌝ }
+{
+    [0; 48]
+}
