@@ -1,0 +1,7 @@
+pub mod Schedule
+pub mod Rows
+pub mod Words
+pub mod Cut
+pub mod Lengths
+pub mod Digest
+pub mod Folding
