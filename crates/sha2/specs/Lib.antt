@@ -1,0 +1,3 @@
+pub mod Variants
+pub mod Running
+pub mod Hash

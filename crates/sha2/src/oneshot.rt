@@ -1,0 +1,40 @@
+// The hash of a whole input.
+use super::running::absorb;
+use super::running::finish;
+use super::running::start;
+use refusal::Answer;
+use refusal::refuse_if;
+use suite::Suite;
+ghost use mathlib.Core.Path.{_≡_};
+ghost use lib.ListN.{length};
+ghost use Rattle.refusal.specs.Answered.{Answered};
+ghost use Rattle.sha2.specs.Hash.{hash, hashNumber};
+
+// The longest input that is taken.
+pub const MAX_INPUT: usize = 2097152;
+
+fn hash_number(suite: u16, n: usize, room: usize) -> u8
+    ensures { λ r. ⌜ r ≡ hashNumber suite n room ⌝ }
+{
+    let known = Suite::is_known(suite);
+    let h = Suite::hash_len(suite);
+    refuse_if(
+        !known,
+        2,
+        refuse_if(MAX_INPUT < n, 9, refuse_if(room < h, 11, 0)),
+    )
+}
+
+// Writes the digest of input to the front of out: H bytes. Refusals 2, 9 and 11.
+pub fn hash(suite: u16, input: &[u8], out: &mut [u8]) -> Answer
+    ensures { λ r. ⌜ Answered (hashNumber suite (length (now (input .entry))) (length (now (out .entry)))) (hash suite (now (input .entry))) (now (out .entry)) r (now (out .exit)) ⌝ }
+{
+    let number = hash_number(suite, input.len(), out.len());
+    if number != 0 {
+        return Answer::decided(number, 0);
+    }
+    let h = Suite::hash_len(suite);
+    let d = finish(suite, absorb(suite, start(suite), input));
+    buffer::put(out, 0, &d[..h]);
+    Answer::decided(0, h)
+}
