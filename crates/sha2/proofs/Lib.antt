@@ -5,3 +5,4 @@ pub mod Turns
 pub mod Tail
 pub mod Whole
 pub mod Padded
+pub mod Suites

@@ -6,7 +6,9 @@ use refusal::Answer;
 use refusal::refuse_if;
 use suite::Suite;
 ghost use mathlib.Core.Path.{_≡_};
-ghost use lib.ListN.{length};
+ghost use Prim.Native.Nat.{_≤_};
+ghost use lib.ListN.{length, take};
+ghost use Rattle.buffer.specs.Buffer.{after};
 ghost use Rattle.refusal.specs.Answered.{Answered};
 ghost use Rattle.sha2.specs.Hash.{hash, hashNumber};
 
@@ -25,6 +27,14 @@ fn hash_number(suite: u16, n: usize, room: usize) -> u8
     )
 }
 
+// Writes the first n bytes of a digest to the front of out.
+fn write(out: &mut [u8], digest: [u8; 48], n: usize)
+    requires { ⌜ n ≤ 48 ⌝ }
+    ensures { λ _. ⌜ now (out .exit) ≡ after 0 (take n digest) (now (out .entry)) ⌝ }
+{
+    buffer::put(out, 0, &digest[..n]);
+}
+
 // Writes the digest of input to the front of out: H bytes. Refusals 2, 9 and 11.
 pub fn hash(suite: u16, input: &[u8], out: &mut [u8]) -> Answer
     ensures { λ r. ⌜ Answered (hashNumber suite (length (now (input .entry))) (length (now (out .entry)))) (hash suite (now (input .entry))) (now (out .entry)) r (now (out .exit)) ⌝ }
@@ -35,6 +45,6 @@ pub fn hash(suite: u16, input: &[u8], out: &mut [u8]) -> Answer
     }
     let h = Suite::hash_len(suite);
     let d = finish(suite, absorb(suite, start(suite), input));
-    buffer::put(out, 0, &d[..h]);
+    write(out, d, h);
     Answer::decided(0, h)
 }

@@ -1,7 +1,5 @@
-use denote.Ref.{now}
 use Rattle.sha2.proofs.Whole.{hash-refused, hash-done, short, digest-is}
-use lib.ListN.{length-take}
-use native.Mathlib.Omega.{arith}
+use denote.Ref.{now}
 use borrow.Author.Needs.{needs}
 use Rattle.sha2.proofs.oneshot.hash.Statement.{statement}
 use Rattle.sha2.proofs.oneshot.hash.Tie as tie
@@ -12,21 +10,18 @@ returns c =
     hash-refused _ (now (a .input)) (now (a .out)) (c .before .before .hash-number .ensures) (c .before .if1 .taken)
     (c .decided .ensures)
 
-slice-aggregate-put : tie.Need-slice-aggregate-put
-slice-aggregate-put c = simp length-take (omega arith)
-
 returns-2 : tie.Need-returns-2
 returns-2 c =
-    let a = c .before .before .before .before .before .before .before .before .before .before .before .before .before .before .args in
-    let e = c .before .before .before .before .before .before .before .before .before .before .before .hash-number .ensures in
-    let z = c .before .before .before .before .before .before .before .before .before .before .if1 .left in
+    let a = c .before .before .before .before .before .before .before .before .before .before .before .before .before .args in
+    let e = c .before .before .before .before .before .before .before .before .before .before .hash-number .ensures in
+    let z = c .before .before .before .before .before .before .before .before .before .if1 .left in
     let s = short _ (now (a .input)) (now (a .out)) e z in
-    let d = digest-is _ (now (a .input)) s (c .before .before .before .before .before .before .before .before .start .ensures)
-    (c .before .before .before .before .before .before .before .absorb .ensures)
-    (c .before .before .before .before .before .before .finish .ensures) in
+    let d = digest-is _ (now (a .input)) s (c .before .before .before .before .before .before .before .start .ensures)
+    (c .before .before .before .before .before .before .absorb .ensures)
+    (c .before .before .before .before .before .finish .ensures) in
     hash-done _ (now (a .input)) (now (a .out)) e z
-    (c .before .before .before .before .before .before .before .before .before .hash-len .ensures .0) d
-    (c .before .before .before .put .ensures .1) (c .decided2 .ensures)
+    (c .before .before .before .before .before .before .before .before .hash-len .ensures .0) d
+    (c .before .before .before .write .ensures) (c .decided2 .ensures)
 
 pub hash-spec : {M : Type 1} → statement M
 hash-spec =
@@ -39,8 +34,6 @@ hash-spec =
     (λ c κs. search needs)
     (λ c κs. search needs)
     (λ c κs. search needs)
-    (λ c. search needs)
-    slice-aggregate-put
     (λ c κs. search needs)
     (λ c κs. search needs)
     (λ c. search needs)
