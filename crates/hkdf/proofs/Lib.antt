@@ -1,0 +1,5 @@
+pub mod Pads
+pub mod Values
+pub mod Filling
+pub mod Labels
+pub mod Calls

@@ -1,0 +1,42 @@
+use Rattle.hkdf.proofs.Values.{length-expand}
+use Rattle.hkdf.proofs.Calls.{call-refused, call-done, expand-small, expand-fits}
+use denote.Ref.{now}
+use lib.ListN.{length}
+use mathlib.Core.Path.{sym}
+use borrow.Author.Needs.{needs}
+use Rattle.hkdf.proofs.expand.expand.Statement.{statement}
+use Rattle.hkdf.proofs.expand.expand.Tie as tie
+
+returns : tie.Need-returns
+returns c =
+    let a = c .before .before .before .before .before .before .args in
+    call-refused _ _ (now (a .out))
+    (expand-small (a .suite) (length (now (a .secret))) (length (now (a .info))) (a .asked) (length (now (a .out))))
+    (c .before .before .expand-number .ensures) (c .before .if1 .taken) (c .decided .ensures)
+
+fill-requires : tie.Need-fill-requires
+fill-requires c κs =
+    let a = c .before .before .before .before .before .before .args in
+    expand-fits (a .suite) (length (now (a .secret))) (length (now (a .info))) (a .asked) (length (now (a .out)))
+    (c .before .before .expand-number .ensures) (c .before .if1 .left)
+
+returns-2 : tie.Need-returns-2
+returns-2 c =
+    let a = c .before .before .before .before .before .before .before .before .before .before .args in
+    call-done _ _ (now (a .out))
+    (expand-small (a .suite) (length (now (a .secret))) (length (now (a .info))) (a .asked) (length (now (a .out))))
+    (c .before .before .before .before .before .before .expand-number .ensures)
+    (c .before .before .before .before .before .if1 .left) (sym (length-expand _ _ _ _))
+    (c .before .before .before .fill .ensures) (c .decided2 .ensures)
+
+pub expand-spec : {M : Type 1} → statement M
+expand-spec =
+    tie.close
+    (tie.spec
+    (λ c κs. search needs)
+    (λ c κs. search needs)
+    returns
+    fill-requires
+    (λ c κs. search needs)
+    (λ c. search needs)
+    returns-2)

@@ -1,0 +1,83 @@
+use Rattle.hkdf.proofs.Filling.{Filling, start, next-small, turn, done}
+use Rattle.hkdf.proofs.Values.{some-hash}
+use Rattle.hkdf.specs.Keyed.{Keys}
+use Rattle.suite.specs.Suite.{hashLen}
+use lib.ListN.{length, length-take}
+use Prim.Native.Nat.{_-_, _*_, _≤_}
+use native.Mathlib.Omega.{arith}
+use borrow.Author.Needs.{needs}
+use Rattle.hkdf.proofs.expand.fill.Statement.{statement}
+use Rattle.hkdf.proofs.expand.fill.Tie as tie
+
+abbrev Inv-loop : tie.InvT-loop
+Inv-loop suite secret info asked out₀ h k t₀ size₀ i₀ at₀ out t size i at = Filling suite secret info asked out₀ h out t size i at × Keys suite secret k × (length info ≤ 1024) × (asked ≤ 255 * hashLen suite) × (asked ≤ length out₀)
+
+abbrev μ-loop : tie.MeasureT-loop
+μ-loop suite secret info asked out₀ h k t₀ size₀ i₀ at₀ out t size i at = asked - at
+
+loop-holds : tie.Need-loop-holds Inv-loop μ-loop
+loop-holds c =
+    let p = c .before .before .before .before .before .before .pre in
+    (start _ _ _ _ _ _ (c .before .before .hash-len .ensures .0) (c .zeros48 .ensures), c .before .prepare .ensures, p .0, p .1, p .2)
+
+add-i : tie.Need-add-i Inv-loop μ-loop
+add-i c = let i = c .before .loop .inv in omega (arith, next-small _ _ _ _ _ _ _ _ _ _ _ (i .0) (i .3) (c .loop-test .taken))
+
+array-share-prefix-t : tie.Need-array-share-prefix-t Inv-loop μ-loop
+array-share-prefix-t c = omega (arith, c .before .loop .inv .0)
+
+slice-aggregate-mac : tie.Need-slice-aggregate-mac Inv-loop μ-loop
+slice-aggregate-mac c = let f = c .before .before .loop .inv .0 in simp length-take (omega (arith, f .small, f .wide))
+
+mac-requires : tie.Need-mac-requires Inv-loop μ-loop
+mac-requires c κs =
+    let i = c .before .before .before .loop .inv in
+    simp length-take (omega (arith, i .0 .small, i .0 .wide, i .2))
+
+slice-aggregate-put : tie.Need-slice-aggregate-put Inv-loop μ-loop
+slice-aggregate-put c = simp length-take (omega arith)
+
+loop-less : tie.Need-loop-less Inv-loop μ-loop
+loop-less c =
+    let l = c .before .before .before .before .before .before .before .before .before .before .loop in
+    let n = some-hash
+    (c .before .before .before .before .before .before .before .before .before .before .before .before .before .before .before .before .before .args .suite) in
+    omega
+    (arith, c .before .before .before .before .before .least .ensures, l .inv .0 .hash, c .before .before .before .before .before .before .before .before .before .loop-test .taken)
+
+loop-again : tie.Need-loop-again Inv-loop μ-loop
+loop-again c =
+    let i = c .before .before .before .before .before .before .before .before .before .before .loop .inv in
+    (turn _ _ _ _ _ _ _ _ _ _ _ (i .0) _ _ _ (i .4) (c .before .before .before .before .before .before .before .before .before .loop-test .taken) (c .before .before .before .before .before .least .ensures) (c .before .before .before .before .before .before .mac .ensures _ (i .1)) (c .before .before .put .ensures .1), i .1, i .2, i .3, i .4)
+
+same-length : tie.Need-same-length Inv-loop μ-loop
+same-length c = c .before .loop .inv .0 .long
+
+returns : tie.Need-returns Inv-loop μ-loop
+returns c = done _ _ _ _ _ _ _ _ _ _ _ (c .before .loop .inv .0) (c .loop-test .left)
+
+pub fill-spec : {M : Type 1} → statement M
+fill-spec =
+    tie.close
+    (tie.spec
+    Inv-loop
+    μ-loop
+    (λ c κs. search needs)
+    (λ c κs. search needs)
+    (λ c κs. search needs)
+    loop-holds
+    add-i
+    array-share-prefix-t
+    slice-aggregate-mac
+    (λ c. search needs)
+    mac-requires
+    (λ c. search needs)
+    (λ c κs. search needs)
+    (λ c. search needs)
+    slice-aggregate-put
+    (λ c κs. search needs)
+    (λ c. search needs)
+    loop-less
+    loop-again
+    same-length
+    returns)
