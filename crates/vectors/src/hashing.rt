@@ -107,8 +107,8 @@ fn answer_message(suite: u16, unit: &[u8], total: usize) {
     say_number(verdict as u64);
 }
 
-// The unit: hex digits, or - for none.
-fn read_unit(digits: &[u8], out: &mut [u8]) -> HexRead {
+// Bytes: hex digits, or - for none.
+pub(crate) fn read_bytes(digits: &[u8], out: &mut [u8]) -> HexRead {
     if digits.len() == 0 {
         return HexRead::Bad(0);
     }
@@ -122,7 +122,7 @@ fn answer_unit(suite: u16, times: u64, digits: &[u8])
     requires { ⌜ times ≤ 1000000 ⌝ }
 {
     let mut unit = [0u8; 4096];
-    let read = read_unit(digits, &mut unit);
+    let read = read_bytes(digits, &mut unit);
     let HexRead::Bytes(n) = read else {
         say(b"bad line");
         return;
@@ -134,13 +134,13 @@ fn answer_unit(suite: u16, times: u64, digits: &[u8])
     answer_message(suite, &unit[..n], n * times as usize);
 }
 
-enum SuiteRead {
+pub(crate) enum SuiteRead {
     Number(u16),
     Bad,
 }
 
 // A suite: four hex digits.
-fn read_suite(digits: &[u8]) -> SuiteRead {
+pub(crate) fn read_suite(digits: &[u8]) -> SuiteRead {
     let mut two = [0u8; 2];
     let read = get_hex(digits, &mut two);
     let HexRead::Bytes(n) = read else {

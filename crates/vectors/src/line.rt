@@ -1,5 +1,7 @@
 // A line: a name, an operation, and what the operation asks for, with one space between fields.
 use super::hashing::answer_hash;
+use super::keying::Keying;
+use super::keying::answer_keying;
 use super::output::say;
 use check::same;
 use text::field::field_end;
@@ -37,6 +39,18 @@ pub(crate) fn behind_space(text: &[u8], end: usize) -> usize
 fn answer_operation(operation: &[u8], rest: &[u8]) {
     if same(operation, b"hash") {
         answer_hash(rest);
+        return;
+    }
+    if same(operation, b"hmac") {
+        answer_keying(Keying::Hmac, rest);
+        return;
+    }
+    if same(operation, b"extract") {
+        answer_keying(Keying::Extract, rest);
+        return;
+    }
+    if same(operation, b"expand") {
+        answer_keying(Keying::Expand, rest);
         return;
     }
     say(b"bad line");

@@ -1,6 +1,7 @@
 // Test vectors: reads one vector a line from standard input and prints one line for each, the
 // vector's name and its value.
 mod hashing;
+mod keying;
 mod line;
 mod output;
 

@@ -20,9 +20,9 @@ pub(crate) fn say_number(n: u64) {
     say_front(&digits, end);
 }
 
-// At most 64 bytes.
+// At most 512 bytes.
 pub(crate) fn say_hex(bytes: &[u8]) {
-    let mut digits = [0u8; 128];
+    let mut digits = [0u8; 1024];
     let end = put_hex(&mut digits, 0, bytes);
     say_front(&digits, end);
 }
