@@ -1,18 +1,11 @@
 /* SHA-256 and SHA-384: the proved library against plain C, alternating in one run, the best of many rounds each. */
 #define _POSIX_C_SOURCE 199309L
 #include "plain.h"
+#include "timing.h"
 #include <stdio.h>
 #include <stdlib.h>
-#include <time.h>
 
 uint8_t bindcricket_hash(uint16_t suite, const uint8_t *input, size_t n, uint8_t *out, size_t room);
-
-static double now(void)
-{
-    struct timespec t;
-    clock_gettime(CLOCK_MONOTONIC, &t);
-    return t.tv_sec + t.tv_nsec / 1e9;
-}
 
 static void ours256(const uint8_t *x, size_t n, uint8_t *out) { bindcricket_hash(0x1301, x, n, out, 32); }
 static void ours384(const uint8_t *x, size_t n, uint8_t *out) { bindcricket_hash(0x1302, x, n, out, 48); }

@@ -1,4 +1,7 @@
 /* See plain.h. */
+#ifndef UNROLLED
+#define UNROLLED 0
+#endif
 #include "plain.h"
 
 static const uint32_t sha256_k[64] = {
@@ -55,6 +58,7 @@ static const uint64_t sha384_h[8] = {
         h = t1 + t2; \
     } while (0)
 
+#if UNROLLED
 static void sha256_block(uint32_t s[8], const uint8_t *x)
 {
     uint32_t w[16], a = s[0], b = s[1], c = s[2], d = s[3], e = s[4], f = s[5], g = s[6], h = s[7];
@@ -78,6 +82,22 @@ static void sha256_block(uint32_t s[8], const uint8_t *x)
     }
     s[0] += a, s[1] += b, s[2] += c, s[3] += d, s[4] += e, s[5] += f, s[6] += g, s[7] += h;
 }
+#else
+static void sha256_block(uint32_t s[8], const uint8_t *x)
+{
+    uint32_t w[64], a = s[0], b = s[1], c = s[2], d = s[3], e = s[4], f = s[5], g = s[6], h = s[7];
+    for (int i = 0; i < 16; i++)
+        w[i] = (uint32_t)x[4 * i] << 24 | (uint32_t)x[4 * i + 1] << 16 | (uint32_t)x[4 * i + 2] << 8 | x[4 * i + 3];
+    for (int i = 16; i < 64; i++)
+        w[i] = s1(w[i - 2]) + w[i - 7] + s0(w[i - 15]) + w[i - 16];
+    for (int i = 0; i < 64; i++) {
+        uint32_t t1 = h + S1(e) + ((e & f) ^ (~e & g)) + sha256_k[i] + w[i];
+        uint32_t t2 = S0(a) + ((a & b) ^ (a & c) ^ (b & c));
+        h = g, g = f, f = e, e = d + t1, d = c, c = b, b = a, a = t1 + t2;
+    }
+    s[0] += a, s[1] += b, s[2] += c, s[3] += d, s[4] += e, s[5] += f, s[6] += g, s[7] += h;
+}
+#endif
 
 void plain_sha256(const uint8_t *x, size_t n, uint8_t out[32])
 {
@@ -95,6 +115,47 @@ void plain_sha256(const uint8_t *x, size_t n, uint8_t out[32])
         sha256_block(s, tail + i);
     for (int i = 0; i < 32; i++)
         out[i] = (uint8_t)(s[i / 4] >> (24 - i % 4 * 8));
+}
+
+void plain_start(struct plain *h)
+{
+    memcpy(h->s, sha256_h, sizeof h->s);
+    h->n = 0;
+}
+
+void plain_absorb(struct plain *h, const uint8_t *x, size_t n)
+{
+    size_t at = h->n % 64;
+    h->n += n;
+    if (at) {
+        size_t k = n < 64 - at ? n : 64 - at;
+        memcpy(h->block + at, x, k);
+        if (at + k < 64)
+            return;
+        sha256_block(h->s, h->block);
+        x += k, n -= k;
+    }
+    for (; n >= 64; x += 64, n -= 64)
+        sha256_block(h->s, x);
+    memcpy(h->block, x, n);
+}
+
+void plain_finish(const struct plain *h, uint8_t out[32])
+{
+    struct plain g = *h;
+    size_t at = g.n % 64;
+    g.block[at++] = 0x80;
+    if (at > 56) {
+        memset(g.block + at, 0, 64 - at);
+        sha256_block(g.s, g.block);
+        at = 0;
+    }
+    memset(g.block + at, 0, 56 - at);
+    for (int i = 0; i < 8; i++)
+        g.block[63 - i] = (uint8_t)(g.n * 8 >> (8 * i));
+    sha256_block(g.s, g.block);
+    for (int i = 0; i < 32; i++)
+        out[i] = (uint8_t)(g.s[i / 4] >> (24 - i % 4 * 8));
 }
 #undef R
 #undef S0
@@ -117,6 +178,7 @@ void plain_sha256(const uint8_t *x, size_t n, uint8_t out[32])
         h = t1 + t2; \
     } while (0)
 
+#if UNROLLED
 static void sha384_block(uint64_t s[8], const uint8_t *x)
 {
     uint64_t w[16], a = s[0], b = s[1], c = s[2], d = s[3], e = s[4], f = s[5], g = s[6], h = s[7];
@@ -141,6 +203,23 @@ static void sha384_block(uint64_t s[8], const uint8_t *x)
     }
     s[0] += a, s[1] += b, s[2] += c, s[3] += d, s[4] += e, s[5] += f, s[6] += g, s[7] += h;
 }
+#else
+static void sha384_block(uint64_t s[8], const uint8_t *x)
+{
+    uint64_t w[80], a = s[0], b = s[1], c = s[2], d = s[3], e = s[4], f = s[5], g = s[6], h = s[7];
+    for (int i = 0; i < 16; i++)
+        w[i] = (uint64_t)x[8 * i] << 56 | (uint64_t)x[8 * i + 1] << 48 | (uint64_t)x[8 * i + 2] << 40 | (uint64_t)x[8 * i + 3] << 32 |
+               (uint64_t)x[8 * i + 4] << 24 | (uint64_t)x[8 * i + 5] << 16 | (uint64_t)x[8 * i + 6] << 8 | x[8 * i + 7];
+    for (int i = 16; i < 80; i++)
+        w[i] = s1(w[i - 2]) + w[i - 7] + s0(w[i - 15]) + w[i - 16];
+    for (int i = 0; i < 80; i++) {
+        uint64_t t1 = h + S1(e) + ((e & f) ^ (~e & g)) + sha384_k[i] + w[i];
+        uint64_t t2 = S0(a) + ((a & b) ^ (a & c) ^ (b & c));
+        h = g, g = f, f = e, e = d + t1, d = c, c = b, b = a, a = t1 + t2;
+    }
+    s[0] += a, s[1] += b, s[2] += c, s[3] += d, s[4] += e, s[5] += f, s[6] += g, s[7] += h;
+}
+#endif
 
 void plain_sha384(const uint8_t *x, size_t n, uint8_t out[48])
 {
