@@ -1,23 +1,18 @@
 // HKDF-Expand.
+use super::mac::least;
 use super::mac::mac;
 use super::mac::prepare;
 use super::numbers::expand_number;
 use refusal::Answer;
 use suite::Suite;
 ghost use mathlib.Core.Path.{_≡_};
-ghost use Prim.Native.Nat.{_*_, _≤_, min};
+ghost use Prim.Native.Nat.{_*_, _≤_};
 ghost use lib.ListN.{length};
 ghost use Rattle.buffer.specs.Buffer.{fronted};
 ghost use Rattle.refusal.specs.Answered.{Answered};
 ghost use Rattle.suite.specs.Suite.{hashLen};
 ghost use Rattle.hkdf.specs.Rfc5869.{expand};
 ghost use Rattle.hkdf.specs.Refusals.{expandNumber};
-
-fn least(a: usize, b: usize) -> usize
-    ensures { λ r. ⌜ r ≡ min a b ⌝ }
-{
-    if a < b { a } else { b }
-}
 
 // Writes the asked bytes, a block at a time, each at its own place, the last cut short.
 pub(crate) fn fill(suite: u16, secret: &[u8], info: &[u8], asked: usize, out: &mut [u8])
