@@ -1,9 +1,10 @@
 -- Laws of writing into a buffer, and of zeros.
-use Prim.Native.Nat.{ℕ, zero, suc, _+_, _-_, _≤_, _<_}
+use Prim.Native.Nat.{ℕ, zero, suc, _+_, _-_, _≤_, _<_, min}
 use mathlib.Core.Path.{_≡_, refl, sym, ap, _∙_}
 use mathlib.Core.List.{List, [], _∷_, _++_, append-assoc, append-nil}
 use native.Mathlib.Nat.{add-zero, zero-add, suc-add, le-of-suc-le-suc, not-suc-le-zero}
 use native.Mathlib.Numerals.{add-one}
+use native.Mathlib.Decide.{decLe}
 use native.Mathlib.Omega.{arith}
 use lib.ListN.{length, take, drop, set, replicate, length-append, length-take, length-drop, length-replicate, drop-of-length-le, replicate-append-replicate}
 use lib.Seq.{take-all, take-length, take-at, drop-at, drop-drop, take-suc-set}
@@ -61,6 +62,14 @@ unfolding placed
 length-placed bs h =
     let e : length (zeros 48) ≡ 48 = length-zeros 48 in
     length-fronted bs (zeros 48) (omega arith) ∙ e
+
+-- the front of a list, of as many bytes as it has at most
+pub take-least : (n : ℕ) (xs : List ℕ) → take (min n (length xs)) xs ≡ take n xs
+take-least n xs = go (decLe n (length xs))
+  where
+    go : Dec (n ≤ length xs) → take (min n (length xs)) xs ≡ take n xs
+    go (yes h) = let e : min n (length xs) ≡ n = omega arith in rw e
+    go (no h) = take-all (min n (length xs)) xs (omega arith) ∙ sym (take-all n xs (omega arith))
 
 -- a secret is read back from its place
 pub take-placed : (n : ℕ) (bs : List ℕ) → length bs ≡ n → take n (placed bs) ≡ bs

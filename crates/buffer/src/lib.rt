@@ -1,5 +1,6 @@
-// Writing into a lent buffer.
+// Writing into a lent buffer, and the empty arrays that it starts from.
 ghost use mathlib.Core.Path.{_≡_};
+ghost use Prim.Native.Nat.{min};
 ghost use lib.ListN.{length};
 ghost use Rattle.buffer.specs.Buffer.{after, behind, zeros};
 
@@ -34,4 +35,18 @@ pub fn zeros48() -> [u8; 48]
     ensures { λ r. ⌜ r ≡ zeros 48 ⌝ }
 {
     [0; 48]
+}
+
+// 128 zero bytes: an empty block of a hash.
+pub fn zeros128() -> [u8; 128]
+    ensures { λ r. ⌜ r ≡ zeros 128 ⌝ }
+{
+    [0; 128]
+}
+
+// The lesser of two numbers.
+pub fn least(a: usize, b: usize) -> usize
+    ensures { λ r. ⌜ r ≡ min a b ⌝ }
+{
+    if a < b { a } else { b }
 }

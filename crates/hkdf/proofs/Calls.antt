@@ -5,7 +5,7 @@ use mathlib.Core.Bool.{Bool, true, false, cond, not, _&&_, _||_}
 use mathlib.Core.List.{List, [], _++_, append-nil}
 use native.Mathlib.Omega.{arith}
 use lib.ListN.{length, take, length-take}
-use lib.Seq.{length-take-le}
+use lib.Seq.{take-all}
 use lib.Dec.{eqb, leb, ltb}
 use borrow.Author.Tests.{ltb-false, leb-true, eqb-true, not-false}
 use Rattle.buffer.specs.Buffer.{placed, fronted, after}
@@ -13,9 +13,9 @@ use Rattle.buffer.proofs.Laws.{after-front, take-placed}
 use Rattle.refusal.specs.declared.Answer.{Answer}
 use Rattle.refusal.specs.Refusal.{number, count}
 use Rattle.refusal.specs.Answered.{Answered}
-use Rattle.refusal.proofs.Laws.{passed, at-most, refused, done}
+use Rattle.refusal.proofs.Laws.{passed, or-false, and-true, at-most, refused, done}
 use Rattle.suite.specs.Suite.{known, hashLen, blockLen}
-use Rattle.sha2.specs.Hash.{hash}
+use Rattle.sha2.specs.Hash.{hash, maxInput}
 use Rattle.sha2.proofs.Whole.{length-hash}
 use Rattle.hkdf.specs.Rfc2104.{hmac}
 use Rattle.hkdf.specs.Rfc5869.{extract, expand, blocksFor, Ts}
@@ -23,14 +23,6 @@ use Rattle.hkdf.specs.Rfc8446.{expandLabel, deriveSecret, hkdfLabel, tls
 use Rattle.hkdf.specs.Refusals.{macNumber, expandNumber, expandLabelNumber, deriveSecretNumber, askable, labelled, maxMessage, maxInfo, maxLabel, maxContext, maxMessages}
 use Rattle.hkdf.proofs.Values.{length-hmac, length-expand}
 use Rattle.hkdf.proofs.Labels.{length-label, info-is}
-
-or-false : (a b : Bool) → (a || b) ≡ false → (a ≡ false) × (b ≡ false)
-or-false true b e = absurd (let z : _≡_ {A = ℕ} 0 1 = cc in omega arith)
-or-false false b e = (refl, e)
-
-and-true : (a b : Bool) → (a && b) ≡ true → (a ≡ true) × (b ≡ true)
-and-true true b e = (refl, e)
-and-true false b e = absurd (let z : _≡_ {A = ℕ} 0 1 = cc in omega arith)
 
 -- a refusal, and an answer that is done, for a decision n and the bytes w to write
 module _ (n : ℕ) (w out : List ℕ) (small : n ≤ 13) where
@@ -151,6 +143,10 @@ label-is suite secret label context asked zs out es ei ea =
 pub length-expandLabel : (suite : ℕ) (secret label context : List ℕ) (asked : ℕ) → length (expandLabel suite secret label context asked) ≡ asked
 unfolding expandLabel
 length-expandLabel suite secret label context asked = length-expand suite secret _ asked
+
+-- a digest of what is within the limit
+pub uncut : (suite : ℕ) (m : List ℕ) {d : List ℕ} → length m ≤ maxMessages → d ≡ placed (hash suite (take maxInput m)) → d ≡ placed (hash suite m)
+uncut suite m h e = e ∙ ap (λ (x : List ℕ). placed (hash suite x)) (take-all maxInput m h)
 
 pub derive-is : (suite h : ℕ) (secret label messages zs out : List ℕ) {size : ℕ} {d info after′ : List ℕ} → h ≡ hashLen suite
     → d ≡ placed (hash suite messages) → size ≡ length (hkdfLabel tls13 h label (take h d)) → info ≡ fronted (hkdfLabel tls13 h label (take h d)) zs

@@ -30,7 +30,7 @@ pub record Filling (s : ℕ) (k info : List ℕ) (asked : ℕ) (old : List ℕ) 
 
 -- ---- a value in its place of 48 bytes
 
-placed-front : (xs : List ℕ) (n : ℕ) → n ≤ length xs → take n (placed xs) ≡ take n xs
+pub placed-front : (xs : List ℕ) (n : ℕ) → n ≤ length xs → take n (placed xs) ≡ take n xs
 placed-front xs n h = ap (take n) (placed-is xs) ∙ take-append-le n xs (zeros (48 - length xs)) h
 
 -- ---- one turn

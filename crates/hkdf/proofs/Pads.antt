@@ -1,26 +1,24 @@
--- Laws of HMAC's pads, and of HMAC over the running hash.
+-- Laws of HMAC's pads.
 use Prim.Native.Nat.{ℕ, zero, suc, _+_, _-_, _*_, _≤_, _<_, _^_, min}
 use mathlib.Core.Path.{_≡_, refl, sym, ap, _∙_}
-use mathlib.Core.List.{List, [], _∷_, _++_, map, append-assoc, append-nil}
+use mathlib.Core.List.{List, [], _∷_, _++_, map, append-nil}
 use native.Mathlib.Numerals.{add-one}
 use native.Mathlib.Decide.{decLe}
 use native.Mathlib.Omega.{arith}
 use lib.Bits.{bitXor}
 use lib.ListN.{length, getD, take, drop, set, length-append, length-take, length-map, List·getD-map}
 use lib.Seq.{length-take-le, take-all, take-append-le, take-append-add, take-suc, take-suc-set}
-use Rattle.buffer.specs.Buffer.{zeros, placed, fronted, after}
-use Rattle.buffer.proofs.Laws.{length-zeros, take-zeros, drop-zeros, after-front, take-placed, zeros-none}
-use Rattle.suite.specs.Suite.{hashLen, blockLen}
+use Rattle.buffer.specs.Buffer.{zeros, fronted, after}
+use Rattle.buffer.proofs.Laws.{length-zeros, take-zeros, drop-zeros, after-front, zeros-none}
+use Rattle.suite.specs.Suite.{blockLen}
 use Rattle.suite.proofs.Laws.{bounded}
 use Rattle.sha2.specs.declared.running.Running.{Running}
 use Rattle.sha2.specs.Variants.{variantOf}
-use Rattle.sha2.specs.Running.{start, absorbed, finished, runningOf}
-use Rattle.sha2.specs.Hash.{hash}
-use Rattle.sha2.proofs.Suites.{started, more, digested}
-use Rattle.sha2.proofs.Whole.{length-hash}
-use Rattle.hkdf.specs.declared.mac.Keyed.{Keyed}
-use Rattle.hkdf.specs.Keyed.{Keys}
-use Rattle.hkdf.specs.Rfc2104.{keyBlock, xorEach, ipad, opad, hmac}
+use Rattle.sha2.specs.Running.{start, absorbed, runningOf}
+use Rattle.sha2.proofs.Suites.{started, more}
+use Rattle.hkdf.specs.declared.keyed.Keyed.{Keyed}
+use Rattle.hkdf.specs.Keyed.{keyedOf}
+use Rattle.hkdf.specs.Rfc2104.{keyBlock, xorEach, ipad, opad}
 
 -- a key and as many zeros as a block has bytes, cut to a block
 key-cut : (key : List ℕ) (b n : ℕ) → n ≡ min (length key) b → take b (key ++ zeros b) ≡ take n key ++ zeros (b - n)
@@ -91,48 +89,21 @@ module _ (suite : ℕ) where
       let t = length-take-le (blockLen suite) (xorEach c block) (omega arith) in
       more suite [] (take (blockLen suite) (xorEach c block)) (omega arith) (started suite es) (rw (eb, ep) at er)
 
-  pub keys-is : (key block : List ℕ) {inner outer : Running} → take (blockLen suite) block ≡ keyBlock suite key
+  -- both pads
+  pub keyed-is : (key block : List ℕ) {inner outer : Running} → take (blockLen suite) block ≡ keyBlock suite key
       → inner ≡ runningOf (variantOf suite) (take (blockLen suite) (xorEach 0x36 block))
-      → outer ≡ runningOf (variantOf suite) (take (blockLen suite) (xorEach 0x5c block)) → Keys suite key (record { inner = inner; outer = outer })
-  unfolding ipad opad
-  keys-is key block ek ei eo =
-      record {
-        inner = ei ∙ ap (runningOf (variantOf suite)) (take-xor 0x36 (blockLen suite) block ∙ ap (xorEach 0x36) ek);
-        outer = eo ∙ ap (runningOf (variantOf suite)) (take-xor 0x5c (blockLen suite) block ∙ ap (xorEach 0x5c) ek);
-      }
+      → outer ≡ runningOf (variantOf suite) (take (blockLen suite) (xorEach 0x5c block))
+      → _≡_ {A = Keyed} (record { inner = inner; outer = outer }) (keyedOf suite key)
+  unfolding ipad opad keyedOf
+  keyed-is key block ek ei eo =
+      let a = ei ∙ ap (runningOf (variantOf suite)) (take-xor 0x36 (blockLen suite) block ∙ ap (xorEach 0x36) ek) in
+      let b = eo ∙ ap (runningOf (variantOf suite)) (take-xor 0x5c (blockLen suite) block ∙ ap (xorEach 0x5c) ek) in
+      rw (a, b)
 
-  length-ipad : (key : List ℕ) → length (ipad suite key) ≡ blockLen suite
+  pub length-ipad : (key : List ℕ) → length (ipad suite key) ≡ blockLen suite
   unfolding ipad
   length-ipad key = length-xor 0x36 (keyBlock suite key) ∙ length-keyBlock suite key
 
-  length-opad : (key : List ℕ) → length (opad suite key) ≡ blockLen suite
+  pub length-opad : (key : List ℕ) → length (opad suite key) ≡ blockLen suite
   unfolding opad
   length-opad key = length-xor 0x5c (keyBlock suite key) ∙ length-keyBlock suite key
-
-  -- HMAC of a message in three parts
-  pub mac-is : (k : Keyed) (a b c : List ℕ) {h : ℕ} {x y z o : Running} {d r : List ℕ} → h ≡ hashLen suite
-      → length a + (length b + length c) ≤ 2097152
-      → x ≡ absorbed (variantOf suite) (k .inner) a → y ≡ absorbed (variantOf suite) x b → z ≡ absorbed (variantOf suite) y c
-      → d ≡ finished (variantOf suite) z → o ≡ absorbed (variantOf suite) (k .outer) (take h d) → r ≡ finished (variantOf suite) o
-      → (key : List ℕ) → Keys suite key k → r ≡ placed (hmac suite key (a ++ (b ++ c)))
-  unfolding hmac
-  mac-is k a b c {h} {x} {y} {z} {o} {d} {r} eh small ex ey ez ed eo er key e =
-      let w = bounded suite .block in
-      let wh = bounded suite .hash in
-      let i = ipad suite key in
-      let p = opad suite key in
-      let li : length i ≡ blockLen suite = length-ipad key in
-      let lp : length p ≡ blockLen suite = length-opad key in
-      let x1 = more suite i a (omega arith) (e .inner) ex in
-      let lx : length (i ++ a) ≡ blockLen suite + length a = length-append i a ∙ omega arith in
-      let y1 = more suite (i ++ a) b (omega arith) x1 ey in
-      let ly : length (i ++ a ++ b) ≡ blockLen suite + length a + length b = length-append (i ++ a) b ∙ omega arith in
-      let z1 = more suite (i ++ a ++ b) c (omega arith) y1 ez in
-      let lz : length (i ++ a ++ b ++ c) ≡ blockLen suite + length a + length b + length c = length-append (i ++ a ++ b) c ∙ omega arith in
-      let d1 = digested suite (i ++ a ++ b ++ c) (omega arith) z1 ed in
-      let lh = length-hash suite (i ++ a ++ b ++ c) in
-      let t : take h d ≡ hash suite (i ++ a ++ b ++ c) = ap (take h) d1 ∙ take-placed h (hash suite (i ++ a ++ b ++ c)) (lh ∙ sym eh) in
-      let o1 = more suite p (hash suite (i ++ a ++ b ++ c)) (omega arith) (e .outer) (rw t at eo) in
-      let lo : length (p ++ hash suite (i ++ a ++ b ++ c)) ≡ blockLen suite + hashLen suite = length-append p (hash suite (i ++ a ++ b ++ c)) ∙ omega arith in
-      let regroup : i ++ a ++ b ++ c ≡ i ++ (a ++ (b ++ c)) = append-assoc (i ++ a) b c ∙ append-assoc i a (b ++ c) in
-      digested suite (p ++ hash suite (i ++ a ++ b ++ c)) (omega arith) o1 er ∙ ap (λ (m : List ℕ). placed (hash suite (p ++ hash suite m))) regroup

@@ -1,13 +1,32 @@
--- A key that is ready for use: what the running hashes of the code hold of it.
+-- A key that is ready for use, and what the code makes of one: functions of every value that such a key can have. Of the
+-- keys that `prepare` gives, `proofs/Prepared` joins them to RFC 2104 and RFC 8446.
 use Prim.Native.Nat.{ℕ}
-use mathlib.Core.List.{List}
-use mathlib.Core.Path.{_≡_}
+use mathlib.Core.List.{List, [], _∷_, _++_}
+use lib.ListN.{take}
+use Rattle.buffer.specs.Buffer.{placed}
+use Rattle.suite.specs.Suite.{hashLen}
+use Rattle.sha2.specs.declared.running.Running.{Running}
 use Rattle.sha2.specs.Variants.{variantOf}
-use Rattle.sha2.specs.Running.{runningOf}
-use Rattle.hkdf.specs.declared.mac.Keyed.{Keyed}
+use Rattle.sha2.specs.Running.{absorbed, finished, runningOf}
+use Rattle.hkdf.specs.declared.keyed.Keyed.{Keyed}
 use Rattle.hkdf.specs.Rfc2104.{ipad, opad}
+use Rattle.hkdf.specs.Rfc8446.{tls13, hkdfLabel}
 
--- k is the key's: its running hashes have taken the two pads
-pub record Keys (suite : ℕ) (key : List ℕ) (k : Keyed) : Type 0 where
-  pub inner : k .inner ≡ runningOf (variantOf suite) (ipad suite key)
-  pub outer : k .outer ≡ runningOf (variantOf suite) (opad suite key)
+-- the running hashes after the two pads of a key
+unfoldable pub keyedOf : ℕ → List ℕ → Keyed
+keyedOf suite key =
+    record { inner = runningOf (variantOf suite) (ipad suite key); outer = runningOf (variantOf suite) (opad suite key) }
+
+-- the outer hash over the digest of the inner one, in 48 bytes with zeros behind it
+unfoldable pub closed : ℕ → Running → Running → List ℕ
+closed suite outer inner =
+    let v = variantOf suite in
+    finished v (absorbed v outer (take (hashLen suite) (finished v inner)))
+
+unfoldable pub macOf : ℕ → Keyed → List ℕ → List ℕ
+macOf suite k text = closed suite (k .outer) (absorbed (variantOf suite) (k .inner) text)
+
+-- the first block of Expand-Label, cut to what is asked
+unfoldable pub labelBlock : ℕ → Keyed → List ℕ → List ℕ → ℕ → List ℕ
+labelBlock suite k label context asked =
+    placed (take asked (macOf suite k (hkdfLabel tls13 asked label context ++ (1 ∷ []))))

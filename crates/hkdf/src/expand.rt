@@ -1,7 +1,6 @@
 // HKDF-Expand.
-use super::mac::least;
-use super::mac::mac;
-use super::mac::prepare;
+use super::keyed::mac;
+use super::keyed::prepare;
 use super::numbers::expand_number;
 use refusal::Answer;
 use suite::Suite;
@@ -31,7 +30,7 @@ pub(crate) fn fill(suite: u16, secret: &[u8], info: &[u8], asked: usize, out: &m
         let y = mac(suite, k, &t[..size], info, &counter);
         t = y;
         size = h;
-        let n = least(h, asked - at);
+        let n = buffer::least(h, asked - at);
         buffer::put(out, at, &t[..n]);
         at = at + n;
     }

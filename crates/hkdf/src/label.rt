@@ -3,9 +3,7 @@ use super::expand::fill;
 use super::numbers::derive_secret_number;
 use super::numbers::expand_label_number;
 use refusal::Answer;
-use sha2::running::absorb;
-use sha2::running::finish;
-use sha2::running::start;
+use sha2::oneshot::digest;
 use suite::Suite;
 ghost use mathlib.Core.Path.{_≡_};
 ghost use Prim.Native.Nat.{_≤_, _<_};
@@ -77,7 +75,7 @@ pub fn derive_secret(
         return Answer::decided(number, 0);
     }
     let h = Suite::hash_len(suite);
-    let context = finish(suite, absorb(suite, start(suite), messages));
+    let context = digest(suite, messages);
     let mut info = [0u8; 514];
     let size = put_label(h, label, &context[..h], &mut info);
     fill(suite, secret, &info[..size], h, out);

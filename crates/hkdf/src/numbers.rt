@@ -7,7 +7,7 @@ ghost use mathlib.Core.Path.{_≡_};
 ghost use Rattle.hkdf.specs.Refusals.{macNumber, expandNumber, expandLabelNumber, deriveSecretNumber, askable, labelled};
 
 // The longest message of HMAC and input of Extract, info of Expand, label, context and messages.
-const MAX_MESSAGE: usize = 1048576;
+pub(crate) const MAX_MESSAGE: usize = 1048576;
 
 const MAX_INFO: usize = 1024;
 

@@ -1,6 +1,6 @@
 -- The running hash by suite: what the layers above build on.
 use Prim.Native.Nat.{ℕ, _+_, _<_, _^_}
-use mathlib.Core.Path.{_≡_, sym, ap, _∙_}
+use mathlib.Core.Path.{_≡_, refl, sym, ap, _∙_}
 use mathlib.Core.List.{List, [], _++_}
 use native.Mathlib.Omega.{arith}
 use lib.ListN.{length}
@@ -24,3 +24,8 @@ pub digested : (suite : ℕ) (m : List ℕ) {h : Running} {d : List ℕ} → len
     → d ≡ finished (variantOf suite) h → d ≡ placed (hash suite m)
 unfolding hash
 digested suite m small eh ed = ed ∙ ap (finished (variantOf suite)) eh ∙ running-finished (variantOf suite) (sound suite) m small
+
+-- it counts the bytes
+pub counted : (suite : ℕ) (m : List ℕ) → runningOf (variantOf suite) m .count ≡ length m
+unfolding runningOf
+counted suite m = refl

@@ -4,11 +4,12 @@ use mathlib.Core.Path.{_≡_, refl, sym, ap, _∙_, subst}
 use mathlib.Core.Bool.{Bool, true, false, cond, not}
 use mathlib.Core.List.{List, [], _∷_, _++_}
 use native.Mathlib.Omega.{arith}
-use lib.ListN.{length, take}
+use lib.ListN.{length, take, length-take}
+use lib.Seq.{take-all}
 use lib.Dec.{eqb, ltb}
 use borrow.Author.Tests.{ltb-false}
 use Rattle.buffer.specs.Buffer.{placed, fronted, after}
-use Rattle.buffer.proofs.Laws.{after-front, take-placed}
+use Rattle.buffer.proofs.Laws.{after-front, take-placed, take-least}
 use Rattle.refusal.specs.declared.Answer.{Answer}
 use Rattle.refusal.specs.Refusal.{number, count}
 use Rattle.refusal.specs.Answered.{Answered}
@@ -36,6 +37,15 @@ digest-is suite m small es ea ed =
     let e = running-after v (sound suite) m (omega arith) in
     ed ∙ ap (finished v) (ea ∙ ap (λ (r : Running). absorbed v r m) es ∙ e) ∙ running-finished v (sound suite) m small
 
+-- the same, of an input that is cut at the limit
+pub cut-digest-is : (suite : ℕ) (m : List ℕ) {n : ℕ} {s a : Running} {d : List ℕ} → n ≡ min maxInput (length m)
+    → s ≡ start (variantOf suite) → a ≡ absorbed (variantOf suite) s (take n m) → d ≡ finished (variantOf suite) a
+    → d ≡ placed (hash suite (take maxInput m))
+cut-digest-is suite m {n} en es ea ed =
+    let t : take n m ≡ take maxInput m = ap (λ (k : ℕ). take k m) en ∙ take-least maxInput m in
+    let l : length (take maxInput m) < 2 ^ 61 = simp length-take (omega arith) in
+    digest-is suite (take maxInput m) l es (rw t at ea) ed
+
 module _ (suite : ℕ) (input out : List ℕ) where
   abbrev n : ℕ
   n = hashNumber suite (length input) (length out)
@@ -61,15 +71,12 @@ module _ (suite : ℕ) (input out : List ℕ) where
       let c = passed (ltb (length out) (hashLen suite)) 11 0 (λ z. omega arith) (b .1) in
       (ltb-false maxInput (length input) (b .0), ltb-false (length out) (hashLen suite) (c .0))
 
-  -- the input is not too long to be hashed
-  pub short : {k : ℕ} → k ≡ n → k ≡ 0 → length input < 2 ^ 61
-  short e z = let f = fits (sym e ∙ z) in omega arith
-
-  pub hash-done : {k h : ℕ} {d after′ : List ℕ} {r : Answer} → k ≡ n → k ≡ 0 → h ≡ hashLen suite → d ≡ placed (hash suite input)
+  pub hash-done : {k h : ℕ} {d after′ : List ℕ} {r : Answer} → k ≡ n → k ≡ 0 → h ≡ hashLen suite → d ≡ placed (hash suite (take maxInput input))
       → after′ ≡ after 0 (take h d) out → (number r ≡ 0) × (count r ≡ h) → Answered n (hash suite input) out r after′
   hash-done {k} {h} {d} {after′} {r} e z eh ed eo a =
       let f = fits (sym e ∙ z) in
       let l = length-hash suite input in
-      let w : take h d ≡ hash suite input = ap (take h) ed ∙ take-placed h (hash suite input) (l ∙ sym eh) in
+      let c : take maxInput input ≡ input = take-all maxInput input (omega arith) in
+      let w : take h d ≡ hash suite input = ap (take h) (rw c at ed) ∙ take-placed h (hash suite input) (l ∙ sym eh) in
       done n (hash suite input) out r small {c = h} (sym e ∙ z) (a .0) (a .1) (eh ∙ sym l)
       (eo ∙ rw w (after-front (hash suite input) out (omega arith)))

@@ -2,7 +2,7 @@
 use suite::Hash;
 use suite::Suite;
 ghost use mathlib.Core.Path.{_≡_};
-ghost use Prim.Native.Nat.{_*_, _/_, _%_, min};
+ghost use Prim.Native.Nat.{_*_, _/_, _%_};
 ghost use lib.ListN.{length};
 ghost use Rattle.buffer.specs.Buffer.{zeros};
 ghost use Rattle.fips180.specs.Rows.{folded, digestIn48};
@@ -83,17 +83,4 @@ pub(crate) fn whole(suite: u16, n: usize) -> usize
         Hash::Sha256 => n / 64 * 64,
         Hash::Sha384 => n / 128 * 128,
     }
-}
-
-// An empty block.
-pub(crate) fn empty() -> [u8; 128]
-    ensures { λ r. ⌜ r ≡ zeros 128 ⌝ }
-{
-    [0; 128]
-}
-
-pub(crate) fn least(a: usize, b: usize) -> usize
-    ensures { λ r. ⌜ r ≡ min a b ⌝ }
-{
-    if a < b { a } else { b }
 }

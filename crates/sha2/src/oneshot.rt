@@ -8,9 +8,9 @@ use suite::Suite;
 ghost use mathlib.Core.Path.{_≡_};
 ghost use Prim.Native.Nat.{_≤_};
 ghost use lib.ListN.{length, take};
-ghost use Rattle.buffer.specs.Buffer.{after};
+ghost use Rattle.buffer.specs.Buffer.{after, placed};
 ghost use Rattle.refusal.specs.Answered.{Answered};
-ghost use Rattle.sha2.specs.Hash.{hash, hashNumber};
+ghost use Rattle.sha2.specs.Hash.{hash, hashNumber, maxInput};
 
 // The longest input that is taken.
 pub const MAX_INPUT: usize = 2097152;
@@ -35,6 +35,15 @@ fn write(out: &mut [u8], digest: [u8; 48], n: usize)
     buffer::put(out, 0, &digest[..n]);
 }
 
+// The digest of an input, in 48 bytes with zeros behind it. Of an input over the limit, which every call
+// refuses, the bytes up to it are read.
+pub fn digest(suite: u16, input: &[u8]) -> [u8; 48]
+    ensures { λ r. ⌜ r ≡ placed (hash suite (take maxInput (now (input .entry)))) ⌝ }
+{
+    let n = buffer::least(MAX_INPUT, input.len());
+    finish(suite, absorb(suite, start(suite), &input[..n]))
+}
+
 // Writes the digest of input to the front of out: H bytes. Refusals 2, 9 and 11.
 pub fn hash(suite: u16, input: &[u8], out: &mut [u8]) -> Answer
     ensures { λ r. ⌜ Answered (hashNumber suite (length (now (input .entry))) (length (now (out .entry)))) (hash suite (now (input .entry))) (now (out .entry)) r (now (out .exit)) ⌝ }
@@ -44,7 +53,7 @@ pub fn hash(suite: u16, input: &[u8], out: &mut [u8]) -> Answer
         return Answer::decided(number, 0);
     }
     let h = Suite::hash_len(suite);
-    let d = finish(suite, absorb(suite, start(suite), input));
+    let d = digest(suite, input);
     write(out, d, h);
     Answer::decided(0, h)
 }

@@ -1,6 +1,5 @@
 // The end of a message (FIPS 180-4, section 5.1).
 use super::blocks::digest;
-use super::blocks::empty;
 use super::blocks::fold;
 use suite::Suite;
 ghost use mathlib.Core.Path.{_≡_};
@@ -18,7 +17,7 @@ pub(crate) fn ended(held: [u8; 128], at: usize) -> [u8; 128]
     requires { ⌜ at < 128 ⌝ }
     ensures { λ r. ⌜ (r ≡ take at held ++ 0x80 ∷ zeros (127 - at)) × (length held ≡ 128) ⌝ }
 {
-    let mut block = empty();
+    let mut block = buffer::zeros128();
     buffer::put(&mut block, 0, &held[..at]);
     block[at] = 0x80;
     block

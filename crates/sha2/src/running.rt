@@ -1,8 +1,6 @@
 // The running hash: a message that comes in parts.
-use super::blocks::empty;
 use super::blocks::fold;
 use super::blocks::initial;
-use super::blocks::least;
 use super::blocks::place;
 use super::blocks::whole;
 use super::padding::ended;
@@ -25,7 +23,7 @@ pub fn start(suite: u16) -> Running
     ensures { λ r. ⌜ r ≡ start (variantOf suite) ⌝ }
 {
     let s = initial(suite);
-    let b = empty();
+    let b = buffer::zeros128();
     Running {
         state: s,
         block: b,
@@ -43,7 +41,7 @@ pub fn absorb(suite: u16, h: Running, x: &[u8]) -> Running
     let count = std::num::wrapping_add_u64(h.count, n);
     let s = h.state;
     let mut block = h.block;
-    let k = least(b - at, x.len());
+    let k = buffer::least(b - at, x.len());
     buffer::put(&mut block, at, &x[..k]);
     if at + k < b {
         return Running {
@@ -56,7 +54,7 @@ pub fn absorb(suite: u16, h: Running, x: &[u8]) -> Running
     let rest = &x[k..];
     let state = fold(suite, first, rest);
     let w = whole(suite, rest.len());
-    let mut tail = empty();
+    let mut tail = buffer::zeros128();
     buffer::put(&mut tail, 0, &rest[w..]);
     Running {
         state: state,
@@ -79,6 +77,6 @@ pub fn finish(suite: u16, h: Running) -> [u8; 48]
         return last(suite, s, block, bits);
     }
     let next = fold(suite, s, &block[..b]);
-    let none = empty();
+    let none = buffer::zeros128();
     last(suite, next, none, bits)
 }

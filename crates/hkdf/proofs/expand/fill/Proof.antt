@@ -1,16 +1,19 @@
 use Rattle.hkdf.proofs.Filling.{Filling, start, next-small, turn, done}
 use Rattle.hkdf.proofs.Values.{some-hash}
-use Rattle.hkdf.specs.Keyed.{Keys}
+use Rattle.hkdf.specs.Keyed.{keyedOf}
 use Rattle.suite.specs.Suite.{hashLen}
-use lib.ListN.{length, length-take}
-use Prim.Native.Nat.{_-_, _*_, _≤_}
+use Rattle.hkdf.proofs.Prepared.{mac-under}
+use denote.Ref.{now}
+use mathlib.Core.Path.{_≡_}
+use lib.ListN.{length, take, length-take}
+use Prim.Native.Nat.{_+_, _-_, _*_, _≤_}
 use native.Mathlib.Omega.{arith}
 use borrow.Author.Needs.{needs}
 use Rattle.hkdf.proofs.expand.fill.Statement.{statement}
 use Rattle.hkdf.proofs.expand.fill.Tie as tie
 
 abbrev Inv-loop : tie.InvT-loop
-Inv-loop suite secret info asked out₀ h k t₀ size₀ i₀ at₀ out t size i at = Filling suite secret info asked out₀ h out t size i at × Keys suite secret k × (length info ≤ 1024) × (asked ≤ 255 * hashLen suite) × (asked ≤ length out₀)
+Inv-loop suite secret info asked out₀ h k t₀ size₀ i₀ at₀ out t size i at = Filling suite secret info asked out₀ h out t size i at × (k ≡ keyedOf suite secret) × (length info ≤ 1024) × (asked ≤ 255 * hashLen suite) × (asked ≤ length out₀)
 
 abbrev μ-loop : tie.MeasureT-loop
 μ-loop suite secret info asked out₀ h k t₀ size₀ i₀ at₀ out t size i at = asked - at
@@ -29,11 +32,6 @@ array-share-prefix-t c = omega (arith, c .before .loop .inv .0)
 slice-aggregate-mac : tie.Need-slice-aggregate-mac Inv-loop μ-loop
 slice-aggregate-mac c = let f = c .before .before .loop .inv .0 in simp length-take (omega (arith, f .small, f .wide))
 
-mac-requires : tie.Need-mac-requires Inv-loop μ-loop
-mac-requires c κs =
-    let i = c .before .before .before .loop .inv in
-    simp length-take (omega (arith, i .0 .small, i .0 .wide, i .2))
-
 slice-aggregate-put : tie.Need-slice-aggregate-put Inv-loop μ-loop
 slice-aggregate-put c = simp length-take (omega arith)
 
@@ -47,8 +45,13 @@ loop-less c =
 
 loop-again : tie.Need-loop-again Inv-loop μ-loop
 loop-again c =
-    let i = c .before .before .before .before .before .before .before .before .before .before .loop .inv in
-    (turn _ _ _ _ _ _ _ _ _ _ _ (i .0) _ _ _ (i .4) (c .before .before .before .before .before .before .before .before .before .loop-test .taken) (c .before .before .before .before .before .least .ensures) (c .before .before .before .before .before .before .mac .ensures _ (i .1)) (c .before .before .put .ensures .1), i .1, i .2, i .3, i .4)
+    let a = c .before .before .before .before .before .before .before .before .before .before .before .before .before .before .before .before .before .args in
+    let l = c .before .before .before .before .before .before .before .before .before .before .loop in
+    let i = l .inv in
+    let p = take (l .size) (l .t) in
+    let w : length p + (length (now (a .info)) + 1) ≤ 2097152 = simp length-take (omega (arith, i .0 .small, i .0 .wide, i .2)) in
+    let m = mac-under (a .suite) (now (a .secret)) p (now (a .info)) _ w (i .1) (c .before .before .before .before .before .before .mac .ensures) in
+    (turn _ _ _ _ _ _ _ _ _ _ _ (i .0) _ _ _ (i .4) (c .before .before .before .before .before .before .before .before .before .loop-test .taken) (c .before .before .before .before .before .least .ensures) m (c .before .before .put .ensures .1), i .1, i .2, i .3, i .4)
 
 same-length : tie.Need-same-length Inv-loop μ-loop
 same-length c = c .before .loop .inv .0 .long
@@ -70,7 +73,7 @@ fill-spec =
     array-share-prefix-t
     slice-aggregate-mac
     (λ c. search needs)
-    mac-requires
+    (λ c κs. search needs)
     (λ c. search needs)
     (λ c κs. search needs)
     (λ c. search needs)

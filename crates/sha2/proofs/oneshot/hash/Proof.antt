@@ -1,4 +1,4 @@
-use Rattle.sha2.proofs.Whole.{hash-refused, hash-done, short, digest-is}
+use Rattle.sha2.proofs.Whole.{hash-refused, hash-done}
 use denote.Ref.{now}
 use borrow.Author.Needs.{needs}
 use Rattle.sha2.proofs.oneshot.hash.Statement.{statement}
@@ -7,21 +7,12 @@ use Rattle.sha2.proofs.oneshot.hash.Tie as tie
 returns : tie.Need-returns
 returns c =
     let a = c .before .before .before .before .before .args in
-    hash-refused _ (now (a .input)) (now (a .out)) (c .before .before .hash-number .ensures) (c .before .if1 .taken)
-    (c .decided .ensures)
+    hash-refused _ (now (a .input)) (now (a .out)) (c .before .before .hash-number .ensures) (c .before .if1 .taken) (c .decided .ensures)
 
 returns-2 : tie.Need-returns-2
 returns-2 c =
-    let a = c .before .before .before .before .before .before .before .before .before .before .before .before .before .args in
-    let e = c .before .before .before .before .before .before .before .before .before .before .hash-number .ensures in
-    let z = c .before .before .before .before .before .before .before .before .before .if1 .left in
-    let s = short _ (now (a .input)) (now (a .out)) e z in
-    let d = digest-is _ (now (a .input)) s (c .before .before .before .before .before .before .before .start .ensures)
-    (c .before .before .before .before .before .before .absorb .ensures)
-    (c .before .before .before .before .before .finish .ensures) in
-    hash-done _ (now (a .input)) (now (a .out)) e z
-    (c .before .before .before .before .before .before .before .before .hash-len .ensures .0) d
-    (c .before .before .before .write .ensures) (c .decided2 .ensures)
+    let a = c .before .before .before .before .before .before .before .before .before .before .before .args in
+    hash-done _ (now (a .input)) (now (a .out)) (c .before .before .before .before .before .before .before .before .hash-number .ensures) (c .before .before .before .before .before .before .before .if1 .left) (c .before .before .before .before .before .before .hash-len .ensures .0) (c .before .before .before .before .before .digest .ensures) (c .before .before .before .write .ensures) (c .decided2 .ensures)
 
 pub hash-spec : {M : Type 1} → statement M
 hash-spec =
@@ -30,8 +21,6 @@ hash-spec =
     (λ c κs. search needs)
     (λ c κs. search needs)
     returns
-    (λ c κs. search needs)
-    (λ c κs. search needs)
     (λ c κs. search needs)
     (λ c κs. search needs)
     (λ c κs. search needs)

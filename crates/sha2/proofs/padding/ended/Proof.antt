@@ -10,7 +10,7 @@ slice-aggregate-put-2 c = simp length-take (omega arith)
 
 returns : tie.Need-returns
 returns c =
-    (ended-is (c .before .before .before .before .before .args .t1) (omega arith) (c .before .before .before .before .before .pre) (c .before .before .before .before .empty .ensures) (c .before .put .ensures .1), omega arith)
+    (ended-is (c .before .before .before .before .before .args .t1) (omega arith) (c .before .before .before .before .before .pre) (c .before .before .before .before .zeros128 .ensures) (c .before .put .ensures .1), omega arith)
 
 pub ended-spec : {M : Type 1} → statement M
 ended-spec =

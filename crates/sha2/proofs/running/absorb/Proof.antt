@@ -65,7 +65,7 @@ returns-2 c =
     (c .before .before .before .before .before .before .before .before .before .before .if1 .left)
     (c .before .before .before .before .before .before .before .before .fold .ensures)
     (c .before .before .before .before .before .before .fold2 .ensures)
-    (c .before .before .before .before .before .whole .ensures) (c .before .before .before .before .empty .ensures)
+    (c .before .before .before .before .before .whole .ensures) (c .before .before .before .before .zeros128 .ensures)
     (c .before .put2 .ensures .1)
 
 pub absorb-spec : {M : Type 1} → statement M

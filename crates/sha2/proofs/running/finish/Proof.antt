@@ -46,7 +46,7 @@ returns-2 c =
     (c .before .before .before .before .before .before .before .before .before .before .before .block-len .ensures .0 ∙ block-len _)
     (c .before .before .before .before .before .before .before .before .split64 .ensures)
     (c .before .before .before .before .before .ended .ensures .0) (c .before .before .before .before .if1 .left)
-    (c .before .before .fold .ensures) (c .before .empty .ensures) (c .last2 .ensures)
+    (c .before .before .fold .ensures) (c .before .zeros128 .ensures) (c .last2 .ensures)
 
 pub finish-spec : {M : Type 1} → statement M
 finish-spec =

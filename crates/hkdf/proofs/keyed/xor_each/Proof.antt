@@ -6,8 +6,8 @@ use Prim.Native.Nat.{_-_, _≤_}
 use native.Mathlib.Omega.{arith}
 use mathlib.Core.Path.{_≡_, refl, sym, _∙_}
 use borrow.Author.Needs.{needs}
-use Rattle.hkdf.proofs.mac.xor_each.Statement.{statement}
-use Rattle.hkdf.proofs.mac.xor_each.Tie as tie
+use Rattle.hkdf.proofs.keyed.xor_each.Statement.{statement}
+use Rattle.hkdf.proofs.keyed.xor_each.Tie as tie
 
 abbrev Inv-loop : tie.InvT-loop
 Inv-loop c block r₀ i₀ r i = (i ≤ 128) × (length r ≡ 128) × (length block ≡ 128) × (take i r ≡ take i (xorEach c block))

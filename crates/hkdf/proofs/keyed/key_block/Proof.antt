@@ -2,8 +2,8 @@ use Rattle.hkdf.proofs.Pads.{key-block-is}
 use lib.ListN.{length-take}
 use native.Mathlib.Omega.{arith}
 use borrow.Author.Needs.{needs}
-use Rattle.hkdf.proofs.mac.key_block.Statement.{statement}
-use Rattle.hkdf.proofs.mac.key_block.Tie as tie
+use Rattle.hkdf.proofs.keyed.key_block.Statement.{statement}
+use Rattle.hkdf.proofs.keyed.key_block.Tie as tie
 
 slice-aggregate-put-2 : tie.Need-slice-aggregate-put-2
 slice-aggregate-put-2 c = simp length-take (omega arith)
@@ -11,7 +11,7 @@ slice-aggregate-put-2 c = simp length-take (omega arith)
 returns : tie.Need-returns
 returns c =
     key-block-is _ _ (c .before .before .before .before .before .before .block-len .ensures .0)
-    (c .before .before .before .before .before .least .ensures) (c .before .before .before .before .empty .ensures)
+    (c .before .before .before .before .before .least .ensures) (c .before .before .before .before .zeros128 .ensures)
     (c .before .put .ensures .1)
 
 pub key-block-spec : {M : Type 1} → statement M

@@ -2,8 +2,8 @@ use Rattle.hkdf.proofs.Pads.{pad-absorbed}
 use lib.ListN.{length-take}
 use native.Mathlib.Omega.{arith}
 use borrow.Author.Needs.{needs}
-use Rattle.hkdf.proofs.mac.after_pad.Statement.{statement}
-use Rattle.hkdf.proofs.mac.after_pad.Tie as tie
+use Rattle.hkdf.proofs.keyed.after_pad.Statement.{statement}
+use Rattle.hkdf.proofs.keyed.after_pad.Tie as tie
 
 slice-aggregate-absorb : tie.Need-slice-aggregate-absorb
 slice-aggregate-absorb c = simp length-take (omega arith)

@@ -1,0 +1,141 @@
+// HMAC and the first block of HKDF-Expand-Label under a key that is prepared once. Every function here is total: the calls
+// above it judge lengths.
+use super::numbers::MAX_MESSAGE;
+use sha2::running::Running;
+use sha2::running::absorb;
+use sha2::running::finish;
+use sha2::running::start;
+use suite::Suite;
+ghost use mathlib.Core.Path.{_≡_};
+ghost use mathlib.Core.List.{[], _∷_, _++_};
+ghost use lib.ListN.{take};
+ghost use Rattle.buffer.specs.Buffer.{placed, zeros};
+ghost use Rattle.suite.specs.Suite.{blockLen};
+ghost use Rattle.sha2.specs.Variants.{variantOf};
+ghost use Rattle.sha2.specs.Running.{absorbed, runningOf};
+ghost use Rattle.hkdf.specs.Rfc2104.{keyBlock, xorEach};
+ghost use Rattle.hkdf.specs.Rfc5869.{extract};
+ghost use Rattle.hkdf.specs.Rfc8446.{tls13, hkdfLabel};
+ghost use Rattle.hkdf.specs.Refusals.{maxMessage};
+ghost use Rattle.hkdf.specs.Keyed.{keyedOf, closed, macOf, labelBlock};
+
+// A key ready for use: the running hash after each of its pads.
+pub struct Keyed {
+    pub inner: Running,
+    pub outer: Running,
+}
+
+// The key with zeros behind it, one block long at the front.
+fn key_block(suite: u16, key: &[u8]) -> [u8; 128]
+    ensures { λ r. ⌜ take (blockLen suite) r ≡ keyBlock suite (now (key .entry)) ⌝ }
+{
+    let b = Suite::block_len(suite);
+    let n = buffer::least(key.len(), b);
+    let mut block = buffer::zeros128();
+    buffer::put(&mut block, 0, &key[..n]);
+    block
+}
+
+fn xor_each(block: [u8; 128], c: u8) -> [u8; 128]
+    ensures { λ r. ⌜ r ≡ xorEach c block ⌝ }
+{
+    let mut r = block;
+    let mut i: usize = 0;
+    while i < 128 {
+        r[i] = block[i] ^ c;
+        i += 1;
+    }
+    r
+}
+
+// The running hash after a key block that is XORed with the byte c.
+fn after_pad(suite: u16, block: [u8; 128], c: u8) -> Running
+    ensures { λ r. ⌜ r ≡ runningOf (variantOf suite) (take (blockLen suite) (xorEach c block)) ⌝ }
+{
+    let b = Suite::block_len(suite);
+    let pad = xor_each(block, c);
+    absorb(suite, start(suite), &pad[..b])
+}
+
+pub fn prepare(suite: u16, key: &[u8]) -> Keyed
+    ensures { λ r. ⌜ r ≡ keyedOf suite (now (key .entry)) ⌝ }
+{
+    let block = key_block(suite, key);
+    let inner = after_pad(suite, block, 0x36);
+    let outer = after_pad(suite, block, 0x5c);
+    Keyed {
+        inner: inner,
+        outer: outer,
+    }
+}
+
+// The outer hash over the digest of the inner one.
+fn close(suite: u16, outer: Running, inner: Running) -> [u8; 48]
+    ensures { λ r. ⌜ r ≡ closed suite outer inner ⌝ }
+{
+    let h = Suite::hash_len(suite);
+    let digest = finish(suite, inner);
+    finish(suite, absorb(suite, outer, &digest[..h]))
+}
+
+// HMAC of the message a, b, c, in 48 bytes with zeros behind it.
+pub fn mac(suite: u16, k: Keyed, a: &[u8], b: &[u8], c: &[u8]) -> [u8; 48]
+    ensures { λ r. ⌜ r ≡ macOf suite k (now (a .entry) ++ (now (b .entry) ++ now (c .entry))) ⌝ }
+{
+    let inner = k.inner;
+    let outer = k.outer;
+    close(
+        suite,
+        outer,
+        absorb(suite, absorb(suite, absorb(suite, inner, a), b), c),
+    )
+}
+
+// HKDF-Extract, in 48 bytes with zeros behind it. Of an input over the limit, which every call refuses, the bytes up to it
+// are read.
+pub fn extract_value(suite: u16, salt: &[u8], input: &[u8]) -> [u8; 48]
+    ensures { λ r. ⌜ r ≡ placed (extract suite (now (salt .entry)) (take maxMessage (now (input .entry)))) ⌝ }
+{
+    let n = buffer::least(MAX_MESSAGE, input.len());
+    let k = prepare(suite, salt);
+    mac(suite, k, &input[..n], &input[..0], &input[..0])
+}
+
+// Absorbs the HkdfLabel of an asked length, a label and a context, and the first block's number.
+fn absorb_label(suite: u16, h: Running, label: &[u8], context: &[u8], asked: usize) -> Running
+    ensures { λ r. ⌜ r ≡ absorbed (variantOf suite) h (hkdfLabel tls13 asked (now (label .entry)) (now (context .entry)) ++ (1 ∷ [])) ⌝ }
+{
+    let head = [
+        (asked / 256 % 256) as u8,
+        (asked % 256) as u8,
+        ((6 + label.len() % 256) % 256) as u8,
+        0x74,
+        0x6c,
+        0x73,
+        0x31,
+        0x33,
+        0x20,
+    ];
+    let size = [(context.len() % 256) as u8];
+    let number = [1u8];
+    let named = absorb(suite, absorb(suite, h, &head), label);
+    let whole = absorb(suite, absorb(suite, named, &size), context);
+    absorb(suite, whole, &number)
+}
+
+// The first block of Expand-Label, cut to what is asked, with zeros behind it.
+pub fn label_block(suite: u16, k: Keyed, label: &[u8], context: &[u8], asked: usize) -> [u8; 48]
+    ensures { λ r. ⌜ r ≡ labelBlock suite k (now (label .entry)) (now (context .entry)) asked ⌝ }
+{
+    let inner = k.inner;
+    let outer = k.outer;
+    let t = close(
+        suite,
+        outer,
+        absorb_label(suite, inner, label, context, asked),
+    );
+    let n = buffer::least(asked, 48);
+    let mut r = buffer::zeros48();
+    buffer::put(&mut r, 0, &t[..n]);
+    r
+}
