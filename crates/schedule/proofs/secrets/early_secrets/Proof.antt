@@ -1,0 +1,22 @@
+use Rattle.schedule.proofs.Derivations.{secret-is}
+use Rattle.schedule.specs.Labels.{Secret, label}
+use borrow.Author.Needs.{needs}
+use Rattle.schedule.proofs.secrets.early_secrets.Statement.{statement}
+use Rattle.schedule.proofs.secrets.early_secrets.Tie as tie
+
+returns : tie.Need-returns
+unfolding label
+returns c =
+    let k = c .before .before .before .before .ready .ensures in
+    (secret-is _ Secret.client-early _ _ k (c .before .before .derive .ensures), secret-is _ Secret.early-exporter _ _ k (c .derive2 .ensures))
+
+pub early-secrets-spec : {M : Type 1} → statement M
+early-secrets-spec =
+    tie.close
+    (tie.spec
+    (λ c κs. search needs)
+    (λ c. search needs)
+    (λ c κs. search needs)
+    (λ c. search needs)
+    (λ c κs. search needs)
+    returns)

@@ -1,0 +1,3 @@
+pub mod Labels
+pub mod Diagram
+pub mod Schedule

@@ -1,0 +1,36 @@
+// What every derivation shares: a secret prepared as a key, and Derive-Secret given the hash of the messages.
+use hkdf::keyed::Keyed;
+use hkdf::keyed::label_block;
+use hkdf::keyed::prepare;
+use sha2::oneshot::digest;
+use suite::Suite;
+ghost use mathlib.Core.Path.{_≡_};
+ghost use mathlib.Core.List.{[]};
+ghost use lib.ListN.{take};
+ghost use Rattle.suite.specs.Suite.{hashLen};
+ghost use Rattle.sha2.specs.Hash.{hash};
+ghost use Rattle.hkdf.specs.Keyed.{keyedOf, labelBlock};
+
+pub(crate) fn ready(suite: u16, secret: [u8; 48]) -> Keyed
+    ensures { λ r. ⌜ r ≡ keyedOf suite (take (hashLen suite) secret) ⌝ }
+{
+    let h = Suite::hash_len(suite);
+    prepare(suite, &secret[..h])
+}
+
+// H bytes under a label, over the hash of the messages.
+pub(crate) fn derive(suite: u16, k: Keyed, label: &[u8], transcript: [u8; 48]) -> [u8; 48]
+    ensures { λ r. ⌜ r ≡ labelBlock suite k (now (label .entry)) (take (hashLen suite) transcript) (hashLen suite) ⌝ }
+{
+    let h = Suite::hash_len(suite);
+    label_block(suite, k, label, &transcript[..h], h)
+}
+
+// H bytes under a label, over the hash of nothing.
+pub(crate) fn over_nothing(suite: u16, secret: [u8; 48], label: &[u8]) -> [u8; 48]
+    ensures { λ r. ⌜ r ≡ labelBlock suite (keyedOf suite (take (hashLen suite) secret)) (now (label .entry)) (hash suite []) (hashLen suite) ⌝ }
+{
+    let k = ready(suite, secret);
+    let nothing = digest(suite, b"");
+    derive(suite, k, label, nothing)
+}
