@@ -10,6 +10,9 @@ use Rattle.fips180.specs.Padding.{padded, blocks}
 use Rattle.hkdf.specs.Rfc5869.{blocksFor}
 use Rattle.hkdf.specs.Rfc8446.{tls13, hkdfLabel}
 use Rattle.hkdf.specs.Refusals.{expandNumber, expandLabelNumber}
+use Rattle.session.specs.Call.Call.{Handshake}
+use Rattle.session.specs.Book.{Book, fresh, early, blankAt, stageOf}
+use Rattle.session.specs.Refusals.{number, Reached}
 
 -- "key", "iv", "finished", "derived"
 abbrev pub key : List ℕ
@@ -61,3 +64,7 @@ pub record Marked : Type 0 where
   pub m9 : PadsTo sha256 55 1 × PadsTo sha256 56 2
   -- SHA-384 input of 111 bytes pads to 1 block, 112 to 2
   pub m10 : PadsTo sha384 111 1 × PadsTo sha384 112 2
+  -- group 0 with one byte, no PSK: 4, in every session that can take Handshake
+  pub m11 : (b : Book) (x : ℕ) → Reached b → b .point ≡ early → stageOf b ≡ 2 → b .kind ≡ 0 → number b (Handshake 0 (x ∷ [])) ≡ 4
+  -- Handshake on a fresh session: 1, whatever the group and the secret
+  pub m12 : (group : ℕ) (secret : List ℕ) → number (blankAt fresh) (Handshake group secret) ≡ 1

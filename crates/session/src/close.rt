@@ -1,0 +1,20 @@
+// Close.
+use super::record::Outcome;
+use super::record::Session;
+use super::record::fresh;
+use refusal::Answer;
+ghost use mathlib.Core.Path.{_≡_};
+ghost use Rattle.session.specs.Call.{Call};
+ghost use Rattle.session.specs.Promise.{Done, plain};
+
+// Always accepted: everything becomes zero, the point Closed.
+pub fn close(s: Session) -> Outcome
+    ensures { λ r. ⌜ Done s Call.Close (r .session) (plain (r .answer)) ⌝ }
+{
+    let mut next = fresh();
+    next.point = 5;
+    Outcome {
+        session: next,
+        answer: Answer::decided(0, 0),
+    }
+}

@@ -1,0 +1,35 @@
+// Feed: one whole handshake message.
+use super::messages::byte_at;
+use super::messages::stage_after;
+use super::numbers::feed_number;
+use super::record::Outcome;
+use super::record::Session;
+use refusal::Answer;
+use sha2::running::absorb;
+ghost use mathlib.Core.Path.{_≡_};
+ghost use Rattle.session.specs.Call.{Call};
+ghost use Rattle.session.specs.Promise.{Done, plain};
+
+// Absorbs the message into the transcript. Refusals 1, 7, 8 and 9.
+pub fn feed(s: Session, message: &[u8]) -> Outcome
+    ensures { λ r. ⌜ Done s (Call.Feed (now (message .entry))) (r .session) (plain (r .answer)) ⌝ }
+{
+    let number = feed_number(s.point, s.stage, s.transcript.count, message);
+    if number != 0 {
+        return Outcome {
+            session: s,
+            answer: Answer::decided(number, 0),
+        };
+    }
+    let before = s.transcript;
+    let transcript = absorb(s.suite, before, message);
+    let first = byte_at(message, 0);
+    let stage = stage_after(s.stage, first);
+    let mut next = s;
+    next.stage = stage;
+    next.transcript = transcript;
+    Outcome {
+        session: next,
+        answer: Answer::decided(0, 0),
+    }
+}

@@ -1,0 +1,13 @@
+// The session of document 01: its record, and the calls that change it.
+pub mod application;
+pub mod begin;
+pub mod close;
+pub mod complete;
+pub mod early;
+pub mod feed;
+mod groups;
+pub mod handshake;
+pub mod messages;
+mod numbers;
+pub mod record;
+pub mod update;
