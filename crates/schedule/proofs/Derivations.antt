@@ -56,10 +56,12 @@ small = every Small (omega arith) (omega arith) (omega arith) (omega arith) (ome
 module _ (suite : ℕ) where
   -- ---- what is shared
 
-  pub ready-is : (s : List ℕ) {h : ℕ} {k : Keyed} → h ≡ hashLen suite → k ≡ keyedOf suite (take h s) → k ≡ keyedOf suite (take (hashLen suite) s)
+  pub ready-is : (s : List ℕ) {h : ℕ} {k : Keyed} → h ≡ hashLen suite → k ≡ keyedOf suite (take h s) → k ≡ keyedOf suite
+      (take (hashLen suite) s)
   ready-is s eh ek = ek ∙ ap (λ (n : ℕ). keyedOf suite (take n s)) eh
 
-  pub derive-of : (k : Keyed) (name t : List ℕ) {h : ℕ} {r : List ℕ} → h ≡ hashLen suite → r ≡ labelBlock suite k name (take h t) h
+  pub derive-of : (k : Keyed) (name t : List ℕ) {h : ℕ} {r : List ℕ} → h ≡ hashLen suite → r ≡ labelBlock suite k name
+      (take h t) h
       → r ≡ labelBlock suite k name (take (hashLen suite) t) (hashLen suite)
   derive-of k name t eh er = er ∙ ap (λ (n : ℕ). labelBlock suite k name (take n t) n) eh
 
@@ -67,23 +69,27 @@ module _ (suite : ℕ) where
       → r ≡ labelBlock suite k name (take (hashLen suite) d) (hashLen suite)
       → r ≡ labelBlock suite (keyedOf suite secret) name (hash suite []) (hashLen suite)
   nothing-of secret name {k} {d} ek ed er =
-      let c : take (hashLen suite) d ≡ hash suite [] = ap (take (hashLen suite)) ed ∙ take-placed (hashLen suite) (hash suite []) (length-hash suite []) in
+      let c : take (hashLen suite) d ≡ hash suite [] = ap (take (hashLen suite)) ed ∙ take-placed (hashLen suite)
+      (hash suite []) (length-hash suite []) in
       er
       ∙ ap (λ (x : List ℕ). labelBlock suite k name x (hashLen suite)) c
       ∙ ap (λ (j : Keyed). labelBlock suite j name (hash suite []) (hashLen suite)) ek
 
   -- Derive-Secret over nothing
   pub nothing-is : (secret name : List ℕ) {r : List ℕ} → length name ≤ 249
-      → r ≡ labelBlock suite (keyedOf suite secret) name (hash suite []) (hashLen suite) → r ≡ placed (deriveSecret suite secret name [])
+      → r ≡ labelBlock suite (keyedOf suite secret) name (hash suite []) (hashLen suite) → r ≡ placed
+      (deriveSecret suite secret name [])
   nothing-is secret name short er =
       let w = bounded suite .hash in
       let l : length (hash suite []) ≡ hashLen suite = length-hash suite [] in
-      let b = label-block-is suite secret name (hash suite []) (hashLen suite) (some-hash suite) (omega arith) short (omega arith) in
+      let b = label-block-is suite secret name (hash suite []) (hashLen suite) (some-hash suite) (omega arith) short
+      (omega arith) in
       er ∙ b ∙ ap placed (derive-by-hash suite secret name [])
 
   -- and over messages, given their hash
   pub secret-is : (x : Secret) (secret t : List ℕ) {k : Keyed} {r : List ℕ} → k ≡ keyedOf suite secret
-      → r ≡ labelBlock suite k (label x) (take (hashLen suite) t) (hashLen suite) → r ≡ placed (fromHash suite x secret (take (hashLen suite) t))
+      → r ≡ labelBlock suite k (label x) (take (hashLen suite) t) (hashLen suite) → r ≡ placed
+      (fromHash suite x secret (take (hashLen suite) t))
   unfolding fromHash
   secret-is x secret t ek er =
       let w = bounded suite .hash in
@@ -94,8 +100,10 @@ module _ (suite : ℕ) where
       ∙ label-block-is suite secret (label x) m (hashLen suite) (some-hash suite) (omega arith) (label-short x) l
 
   -- under a label alone
-  alone-is : (secret name : List ℕ) (asked : ℕ) {k : Keyed} {n : ℕ} {r : List ℕ} → length name ≤ 249 → 1 ≤ asked → asked ≤ hashLen suite
-      → k ≡ keyedOf suite secret → n ≡ asked → r ≡ labelBlock suite k name [] n → r ≡ placed (expandLabel suite secret name [] asked)
+  alone-is : (secret name : List ℕ) (asked : ℕ) {k : Keyed} {n : ℕ} {r : List ℕ} → length name ≤ 249 → 1 ≤ asked → asked ≤
+      hashLen suite
+      → k ≡ keyedOf suite secret → n ≡ asked → r ≡ labelBlock suite k name [] n → r ≡ placed
+      (expandLabel suite secret name [] asked)
   alone-is secret name asked {k} {n} short some most ek en er =
       er
       ∙ ap (labelBlock suite k name []) en
@@ -131,40 +139,49 @@ module _ (suite : ℕ) where
       ∙ ap (λ (n : ℕ). placed (extract suite (take n salt) (take m input))) eh
       ∙ ap (λ (x : List ℕ). placed (extract suite (take (hashLen suite) salt) x)) (sym z)
 
-  pub early-is : (psk : List ℕ) {salt r : List ℕ} → salt ≡ zeros 48 → r ≡ placed (extract suite (take (hashLen suite) salt) (orZeros suite psk))
+  pub early-is : (psk : List ℕ) {salt r : List ℕ} → salt ≡ zeros 48 → r ≡ placed
+      (extract suite (take (hashLen suite) salt) (orZeros suite psk))
       → r ≡ placed (earlySecret suite psk)
   unfolding earlySecret
   early-is psk es er =
       let w = bounded suite .hash in
       er ∙ rw (es, take-zeros 48 (hashLen suite) (omega arith))
 
-  pub next-is : (secret input : List ℕ) {salt r : List ℕ} → salt ≡ labelBlock suite (keyedOf suite secret) derived (hash suite []) (hashLen suite)
-      → r ≡ placed (extract suite (take (hashLen suite) salt) (orZeros suite input)) → r ≡ placed (nextSecret suite secret input)
+  pub next-is : (secret input : List ℕ) {salt r : List ℕ} → salt ≡ labelBlock suite (keyedOf suite secret) derived
+      (hash suite []) (hashLen suite)
+      → r ≡ placed (extract suite (take (hashLen suite) salt) (orZeros suite input)) → r ≡ placed
+      (nextSecret suite secret input)
   unfolding nextSecret derived
   next-is secret input {salt} es er =
       let e = nothing-is secret derived (omega arith) es in
       let d = deriveSecret suite secret derived [] in
-      let t : take (hashLen suite) salt ≡ d = ap (take (hashLen suite)) e ∙ take-placed (hashLen suite) d (length-deriveSecret suite secret derived []) in
+      let t : take (hashLen suite) salt ≡ d = ap (take (hashLen suite)) e ∙ take-placed (hashLen suite) d
+      (length-deriveSecret suite secret derived []) in
       er ∙ ap (λ (x : List ℕ). placed (extract suite x (orZeros suite input))) t
 
   pub external-is : (kind : ℕ) (secret : List ℕ) {r : List ℕ} → kind ≡ 1
       → r ≡ labelBlock suite (keyedOf suite secret) (label binder-external) (hash suite []) (hashLen suite)
       → r ≡ placed (deriveSecret suite secret (label (binderOf kind)) [])
-  external-is kind secret e er = rw (eq-eqb kind 1 e) (nothing-is secret (label binder-external) (label-short binder-external) er)
+  external-is kind secret e er = rw (eq-eqb kind 1 e) (nothing-is secret (label binder-external) (label-short binder-external)
+      er)
 
   pub resumption-is : (kind : ℕ) (secret : List ℕ) {r : List ℕ} → (kind ≡ 1 → ⊥)
       → r ≡ labelBlock suite (keyedOf suite secret) (label binder-resumption) (hash suite []) (hashLen suite)
       → r ≡ placed (deriveSecret suite secret (label (binderOf kind)) [])
-  resumption-is kind secret e er = rw (ne-eqb kind 1 e) (nothing-is secret (label binder-resumption) (label-short binder-resumption) er)
+  resumption-is kind secret e er = rw (ne-eqb kind 1 e)
+      (nothing-is secret (label binder-resumption) (label-short binder-resumption) er)
 
   -- ---- of a traffic secret
 
-  pub key-is : (secret : List ℕ) {k : Keyed} {n : ℕ} {r : List ℕ} → k ≡ keyedOf suite secret → n ≡ keyLen suite → r ≡ labelBlock suite k key [] n
+  pub key-is : (secret : List ℕ) {k : Keyed} {n : ℕ} {r : List ℕ} → k ≡ keyedOf suite secret → n ≡ keyLen suite → r ≡ labelBlock
+      suite k key [] n
       → r ≡ placed (writeKey suite secret)
   unfolding writeKey key
-  key-is secret ek en er = alone-is secret key (keyLen suite) (omega arith) (small suite .key-some) (small suite .key-most) ek en er
+  key-is secret ek en er = alone-is secret key (keyLen suite) (omega arith) (small suite .key-some) (small suite .key-most) ek
+      en er
 
-  pub iv-is : (secret : List ℕ) {k : Keyed} {n : ℕ} {r : List ℕ} → k ≡ keyedOf suite secret → n ≡ ivLen suite → r ≡ labelBlock suite k iv [] n
+  pub iv-is : (secret : List ℕ) {k : Keyed} {n : ℕ} {r : List ℕ} → k ≡ keyedOf suite secret → n ≡ ivLen suite → r ≡ labelBlock
+      suite k iv [] n
       → r ≡ placed (writeIv suite secret)
   unfolding writeIv iv
   iv-is secret ek en er = alone-is secret iv (ivLen suite) (omega arith) (small suite .iv-some) (small suite .iv-most) ek en er
@@ -175,14 +192,16 @@ module _ (suite : ℕ) where
   update-is secret ek eh er = alone-is secret trafficUpd (hashLen suite) (omega arith) (some-hash suite) (omega arith) ek eh er
 
   pub verify-is : (base t : List ℕ) {k f : Keyed} {h : ℕ} {g r : List ℕ} → h ≡ hashLen suite → k ≡ keyedOf suite base
-      → g ≡ labelBlock suite k finished [] h → f ≡ keyedOf suite (take (hashLen suite) g) → r ≡ macOf suite f (take h t ++ ([] ++ []))
+      → g ≡ labelBlock suite k finished [] h → f ≡ keyedOf suite (take (hashLen suite) g) → r ≡ macOf suite f
+      (take h t ++ ([] ++ []))
       → r ≡ placed (verifyData suite base (take (hashLen suite) t))
   unfolding verifyData finished
   verify-is base t {k} {f} {h} {g} eh ek eg ef er =
       let w = bounded suite .hash in
       let x = expandLabel suite base finished [] (hashLen suite) in
       let e : g ≡ placed x = alone-is base finished (hashLen suite) (omega arith) (some-hash suite) (omega arith) ek eh eg in
-      let y : take (hashLen suite) g ≡ x = ap (take (hashLen suite)) e ∙ take-placed (hashLen suite) x (length-expandLabel suite base finished [] (hashLen suite)) in
+      let y : take (hashLen suite) g ≡ x = ap (take (hashLen suite)) e ∙ take-placed (hashLen suite) x
+      (length-expandLabel suite base finished [] (hashLen suite)) in
       let l : length (take h t) ≤ 48 = simp length-take (omega arith) in
       mac-under suite x (take h t) [] [] (omega arith) (ef ∙ ap (keyedOf suite) y) er
       ∙ ap (λ (m : List ℕ). placed (hmac suite x m)) (append-nil (take h t) ∙ ap (λ (n : ℕ). take n t) eh)
@@ -190,10 +209,13 @@ module _ (suite : ℕ) where
   -- ---- the exporter
 
   pub export-is : (secret name context out : List ℕ) (asked : ℕ) {h n : ℕ} {d g out′ : List ℕ} {r : Answer} → h ≡ hashLen suite
-      → n ≡ min maxLabel (length name) → d ≡ labelBlock suite (keyedOf suite secret) (take n name) (hash suite []) (hashLen suite)
+      → n ≡ min maxLabel (length name) → d ≡ labelBlock suite (keyedOf suite secret) (take n name) (hash suite [])
+      (hashLen suite)
       → g ≡ placed (hash suite (take maxInput context))
-      → Answered (expandLabelNumber suite (length (take h d)) 8 (length (take h g)) asked (length out)) (expandLabel suite (take h d) exporting (take h g) asked) out r out′
-      → Answered (expandLabelNumber suite (hashLen suite) 8 (hashLen suite) asked (length out)) (tlsExporter suite secret (take maxLabel name) (take maxInput context) asked) out r out′
+      → Answered (expandLabelNumber suite (length (take h d)) 8 (length (take h g)) asked (length out))
+      (expandLabel suite (take h d) exporting (take h g) asked) out r out′
+      → Answered (expandLabelNumber suite (hashLen suite) 8 (hashLen suite) asked (length out))
+      (tlsExporter suite secret (take maxLabel name) (take maxInput context) asked) out r out′
   unfolding tlsExporter
   export-is secret name context out asked {h} {n} {d} {g} eh en ed eg a =
       let c : take n name ≡ take maxLabel name = ap (λ (j : ℕ). take j name) en ∙ take-least maxLabel name in

@@ -13,7 +13,8 @@ use Rattle.hkdf.proofs.Prepared.{derive-by-hash, length-extract}
 use Rattle.schedule.specs.Labels.{Secret, label, trafficUpd, key, iv, exporting}
 use Rattle.schedule.specs.Schedule.{within, earlySecret, nextSecret, handshakeSecret, masterSecret, fromHash, nextTrafficSecret, updated, writeKey, writeIv, trafficKeys, verifyData, tlsExporter}
 
-pub from-hash : (suite : ℕ) (x : Secret) (secret m : List ℕ) → fromHash suite x secret (hash suite m) ≡ deriveSecret suite secret (label x) m
+pub from-hash : (suite : ℕ) (x : Secret) (secret m : List ℕ) → fromHash suite x secret (hash suite m) ≡ deriveSecret suite
+    secret (label x) m
 unfolding fromHash
 from-hash suite x secret m = derive-by-hash suite secret (label x) m
 
@@ -29,7 +30,8 @@ pub length-master : (suite : ℕ) (handshake : List ℕ) → length (masterSecre
 unfolding masterSecret nextSecret
 length-master suite handshake = length-extract suite _ _
 
-pub length-fromHash : (suite : ℕ) (x : Secret) (secret transcriptHash : List ℕ) → length (fromHash suite x secret transcriptHash) ≡ hashLen suite
+pub length-fromHash : (suite : ℕ) (x : Secret) (secret transcriptHash : List ℕ) → length
+    (fromHash suite x secret transcriptHash) ≡ hashLen suite
 unfolding fromHash
 length-fromHash suite x secret transcriptHash = length-expandLabel suite secret (label x) transcriptHash (hashLen suite)
 
@@ -37,7 +39,8 @@ pub length-nextTrafficSecret : (suite : ℕ) (secret : List ℕ) → length (nex
 unfolding nextTrafficSecret
 length-nextTrafficSecret suite secret = length-expandLabel suite secret trafficUpd [] (hashLen suite)
 
-pub length-updated : (suite n : ℕ) (secret : List ℕ) → length secret ≡ hashLen suite → length (updated suite n secret) ≡ hashLen suite
+pub length-updated : (suite n : ℕ) (secret : List ℕ) → length secret ≡ hashLen suite → length (updated suite n secret) ≡ hashLen
+    suite
 unfolding updated
 length-updated suite zero secret e = e
 length-updated suite (suc n) secret e = length-nextTrafficSecret suite (updated suite n secret)
@@ -53,13 +56,16 @@ length-writeIv suite secret = length-expandLabel suite secret iv [] (ivLen suite
 pub length-trafficKeys : (suite : ℕ) (secret : List ℕ) → length (trafficKeys suite secret) ≡ keyLen suite + ivLen suite
 unfolding trafficKeys
 length-trafficKeys suite secret =
-    length-append (writeKey suite secret) (writeIv suite secret) ∙ rw (length-writeKey suite secret, length-writeIv suite secret)
+    length-append (writeKey suite secret) (writeIv suite secret) ∙ rw
+    (length-writeKey suite secret, length-writeIv suite secret)
 
-pub length-verifyData : (suite : ℕ) (base transcriptHash : List ℕ) → length (verifyData suite base transcriptHash) ≡ hashLen suite
+pub length-verifyData : (suite : ℕ) (base transcriptHash : List ℕ) → length (verifyData suite base transcriptHash) ≡ hashLen
+    suite
 unfolding verifyData
 length-verifyData suite base transcriptHash = length-hmac suite _ transcriptHash
 
-pub length-tlsExporter : (suite : ℕ) (secret name context : List ℕ) (asked : ℕ) → length (tlsExporter suite secret name context asked) ≡ asked
+pub length-tlsExporter : (suite : ℕ) (secret name context : List ℕ) (asked : ℕ) → length
+    (tlsExporter suite secret name context asked) ≡ asked
 unfolding tlsExporter
 length-tlsExporter suite secret name context asked = length-expandLabel suite _ exporting (hash suite context) asked
 

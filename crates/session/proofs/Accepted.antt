@@ -98,7 +98,13 @@ module _ (point stage fed : ℕ) (m : List ℕ) where
       let b = holds (wholeMessage m) 7 (λ i. omega arith) (a .1) in
       let c = holds (typeTaken stage (typeOf m)) 8 (λ i. omega arith) (b .1) in
       let d = holds (leb (fed + length m) maxTranscript) 9 (λ i. omega arith) (c .1) in
-      record { where-taken = taking-cases point stage (a .0); whole = b .0; taken = c .0; small = leb-true _ maxTranscript (d .0) }
+      record {
+        where-taken = taking-cases point stage (a .0);
+        whole = b .0;
+        taken = c .0;
+        small = leb-true _ maxTranscript
+            (d .0);
+      }
 
 -- Early
 pub record EarlyTaken (point stage ran kind : ℕ) : Type 0 where
@@ -121,7 +127,13 @@ module _ (point stage ran kind : ℕ) where
       let h = and-true (eqb point 1) (eqb stage 1 && eqb ran 0) (a .0) in
       let k = and-true (eqb stage 1) (eqb ran 0) (h .1) in
       let b = passed (eqb kind 0) 3 0 (λ i. omega arith) (a .1) in
-      record { at = eqb-true point 1 (h .0); come = eqb-true stage 1 (k .0); once = eqb-true ran 0 (k .1); some = eqb-false kind 0 (b .0) }
+      record {
+        at = eqb-true point 1 (h .0);
+        come = eqb-true stage 1 (k .0);
+        once = eqb-true ran 0 (k .1);
+        some = eqb-false kind
+            0 (b .0);
+      }
 
 -- Handshake
 pub record HandshakeTaken (point stage kind group : ℕ) (secret : List ℕ) : Type 0 where

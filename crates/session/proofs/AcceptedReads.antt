@@ -98,8 +98,11 @@ module _ (point stage suite side room : ℕ) where
       let a = passed (knownSide side && not (finishing point stage side)) 1 _ (λ i. omega arith) e in
       let b = holds (knownSide side) 2 (λ i. omega arith) (a .1) in
       let c = passed (ltb room (hashLen suite)) 11 0 (λ i. omega arith) (b .1) in
-      let f = and-not (knownSide side) (finishing point stage side) (b .0) (a .0) in
-      (record { known-side = side-cases side (b .0); finishing = f; at = finishing-cases point stage side f }, ltb-false room (hashLen suite) (c .0))
+      let f = and-not (knownSide side) (finishing point stage side) (b .0) (a .0) in (
+        record { known-side = side-cases side (b .0); finishing = f; at = finishing-cases point stage side f },
+        ltb-false room
+            (hashLen suite) (c .0),
+      )
 
 -- Binder
 pub record BinderTaken (point suite kind : ℕ) (hello : List ℕ) (room : ℕ) : Type 0 where
@@ -162,7 +165,8 @@ module _ (point suite ran name label context asked room : ℕ) where
       (at-most (not (exportRange suite label context asked)) 13 10 _ (omega arith)
       (at-most (ltb room (lengthInForce asked)) 13 11 0 (omega arith) (omega arith)))))
 
-  pub export-zero : exportNumber point suite ran name label context asked room ≡ 0 → ExportTaken point suite ran name label context asked room
+  pub export-zero : exportNumber point suite ran name label context asked room ≡ 0 → ExportTaken point suite ran name label
+      context asked room
   unfolding exportNumber
   export-zero e =
       let a = passed (eqb point 0 || eqb point 5) 1 _ (λ i. omega arith) e in
@@ -170,14 +174,16 @@ module _ (point suite ran name label context asked room : ℕ) where
       let b = holds (eqb name 1 || eqb name 2) 2 (λ i. omega arith) (a .1) in
       let c = holds (exportHeld point ran name) 3 (λ i. omega arith) (b .1) in
       let d = holds (exportRange suite label context asked) 10 (λ i. omega arith) (c .1) in
-      let r = and-true (leb 1 label && leb label 249) (leb context 65535 && leb (lengthInForce asked) (255 * hashLen suite)) (d .0) in
+      let r = and-true (leb 1 label && leb label 249) (leb context 65535 && leb (lengthInForce asked) (255 * hashLen suite))
+      (d .0) in
       let l = and-true (leb 1 label) (leb label 249) (r .0) in
       let k = and-true (leb context 65535) (leb (lengthInForce asked) (255 * hashLen suite)) (r .1) in
       let f = passed (ltb room (lengthInForce asked)) 11 0 (λ i. omega arith) (d .1) in
       record {
         began = eqb-false point 0 (o .0);
         not-closed = eqb-false point 5 (o .1);
-        known-name = or-true (eqb name 1) (eqb name 2) (λ t. early (eqb-true name 1 t)) (λ t. regular (eqb-true name 2 t)) (b .0);
+        known-name = or-true (eqb name 1) (eqb name 2) (λ t. early (eqb-true name 1 t)) (λ t. regular (eqb-true name 2 t))
+            (b .0);
         held = c .0;
         some-label = leb-true 1 label (l .0);
         small-label = leb-true label 249 (l .1);

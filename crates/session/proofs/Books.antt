@@ -78,7 +78,8 @@ fed-small b m h = rw (transcript-snoc (b .messages) m, length-append (transcript
 
 -- after the ClientHello only the ServerHello is taken
 second : (k t : ℕ) → k ≡ 1 → typeTaken k t ≡ true → stageAfter k t ≡ 2
-second k t e h = rw e (ap (λ (x : Bool). cond x 2 1) (or-true (eqb t 2) false (λ p. p) (λ p. absurd (true-false (sym p))) (sym (ap (λ (n : ℕ). typeTaken n t) e) ∙ h)))
+second k t e h = rw e (ap (λ (x : Bool). cond x 2 1) (or-true (eqb t 2) false (λ p. p) (λ p. absurd (true-false (sym p)))
+    (sym (ap (λ (n : ℕ). typeTaken n t) e) ∙ h)))
 
 first-hello : (k after t : ℕ) → k < 2 → typeTaken k t ≡ true → after ≡ stageAfter k t → after ≡ 1 → k < 1
 first-hello k after t small taken is one = go (eqb k 1) refl
@@ -90,16 +91,19 @@ first-hello k after t small taken is one = go (eqb k 1) refl
     go true h = apart 1 2 refl one (is ∙ second k t (eqb-true k 1 h) taken)
     go false h = below (eqb-false k 1 h) small
 
-fed-hello : (b : Book) (m : List ℕ) → b .point ≡ 1 → FeedTaken (b .point) (stageOf b) (fedOf b) m → stageFrom 0 (b .messages ++ (m ∷ [])) ≡ 1
+fed-hello : (b : Book) (m : List ℕ) → b .point ≡ 1 → FeedTaken (b .point) (stageOf b) (fedOf b) m → stageFrom 0
+    (b .messages ++ (m ∷ [])) ≡ 1
     → upTo 1 0 (b .messages ++ (m ∷ [])) ≡ b .messages ++ (m ∷ [])
-fed-hello b m e t one = upTo-more 1 0 (b .messages) m (first-hello (stageOf b) _ (typeOf m) (below (t .where-taken)) (t .taken) (stage-snoc 0 (b .messages) m) one)
+fed-hello b m e t one = upTo-more 1 0 (b .messages) m (first-hello (stageOf b) _ (typeOf m) (below (t .where-taken)) (t .taken)
+    (stage-snoc 0 (b .messages) m) one)
   where
     below : Taking (b .point) (stageOf b) → stageOf b < 2
     below (at-early p h) = h
     below (at-handshake p h) = apart 1 2 refl e p
     below (at-application p h) = apart 1 3 refl e p
 
-fed-hellos : (b : Book) (m : List ℕ) → b .point ≡ 1 → Taking (b .point) (stageOf b) → upTo 2 0 (b .messages ++ (m ∷ [])) ≡ b .messages ++ (m ∷ [])
+fed-hellos : (b : Book) (m : List ℕ) → b .point ≡ 1 → Taking (b .point) (stageOf b) → upTo 2 0 (b .messages ++ (m ∷ [])) ≡
+    b .messages ++ (m ∷ [])
 fed-hellos b m e (at-early p h) = upTo-more 2 0 (b .messages) m h
 fed-hellos b m e (at-handshake p h) = apart 1 2 refl e p
 fed-hellos b m e (at-application p h) = apart 1 3 refl e p
@@ -157,7 +161,18 @@ noted b g (Begin suite kind psk) z = begun-good b suite kind psk (begin-zero (b 
 noted b g (Feed m) z = fed-good b m g (feed-zero (b .point) (stageOf b) (fedOf b) m z)
 noted b g Early z =
     let t = early-zero (b .point) (stageOf b) (b .ran) (b .kind) z in
-    record { fed = g .fed; idle = g .idle; suited = g .suited; first = λ h. omega (arith, t .come); hello = g .hello; hellos = g .hellos; server = g .server; client = g .client; unmoved = g .unmoved }
+    record {
+      fed = g .fed;
+      idle = g .idle;
+      suited = g .suited;
+      first = λ h. omega (arith, t .come);
+      hello = g .hello;
+      hellos =
+          g .hellos;
+      server = g .server;
+      client = g .client;
+      unmoved = g .unmoved;
+    }
 noted b g (Handshake group secret) z =
     let t = handshake-zero (b .point) (stageOf b) (b .kind) group secret z in
     record {
@@ -199,7 +214,18 @@ noted b g Complete z =
     }
 noted b g (Update side) z =
     let t = update-zero (b .point) side (b .clientUpdates) (b .serverUpdates) z in
-    record { fed = g .fed; idle = g .idle; suited = g .suited; first = g .first; hello = g .hello; hellos = g .hellos; server = g .server; client = g .client; unmoved = λ h. absurd (h (t .at)) }
+    record {
+      fed = g .fed;
+      idle = g .idle;
+      suited = g .suited;
+      first = g .first;
+      hello = g .hello;
+      hellos = g .hellos;
+      server =
+          g .server;
+      client = g .client;
+      unmoved = λ h. absurd (h (t .at));
+    }
 noted b g Close z = blank-good 5 (eqb-false 5 0 refl) (λ h. past-four h)
   where
     past-four : 5 ≤ 4 → ⊥

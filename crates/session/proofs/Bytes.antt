@@ -71,6 +71,8 @@ zero-turn xs bits i h e =
     rw (add-one i, or-zero bits (getD xs i 0), and-assoc (eqb bits 0) (eqb (getD xs i 0) 0) (allZero (drop (suc i) xs)))
     (ap (λ (t : Bool). eqb bits 0 && t) (sym l) ∙ e)
 
-pub zero-done : (xs : List ℕ) (bits i : ℕ) → length xs ≤ i → (eqb bits 0 && allZero (drop i xs)) ≡ allZero xs → eqb bits 0 ≡ allZero xs
+pub zero-done : (xs : List ℕ) (bits i : ℕ) → length xs ≤ i → (eqb bits 0 && allZero (drop i xs)) ≡ allZero xs → eqb bits 0 ≡
+    allZero xs
 unfolding allZero
-zero-done xs bits i h e = sym (and-yes (eqb bits 0)) ∙ ap (λ (l : List ℕ). eqb bits 0 && allZero l) (sym (drop-of-length-le xs h)) ∙ e
+zero-done xs bits i h e = sym (and-yes (eqb bits 0)) ∙ ap (λ (l : List ℕ). eqb bits 0 && allZero l)
+    (sym (drop-of-length-le xs h)) ∙ e

@@ -24,7 +24,13 @@ use Rattle.session.proofs.Accepted.{next-refused, next-accepted}
 -- the reply of the book, when it refuses and when it accepts
 reply-if : Book → Call → Bool → Reply
 reply-if b c t =
-    record { number = number b c; count = cond t (length (written b c)) 0; verdict = cond t (verdict b c) false; output = cond t (fronted (written b c) (lent c)) (lent c) }
+    record {
+      number = number b c;
+      count = cond t (length (written b c)) 0;
+      verdict = cond t (verdict b c) false;
+      output = cond t
+          (fronted (written b c) (lent c)) (lent c);
+    }
 
 refused-reply : (b : Book) (c : Call) (n k : ℕ) → n ≡ number b c → k ≡ 0 → (n ≡ 0 → ⊥)
     → _≡_ {A = Reply} (record { number = n; count = k; verdict = false; output = lent c }) (reply b c)
@@ -34,7 +40,8 @@ refused-reply b c n k is none some =
     (λ i. record { number = is i; count = none i; verdict = false; output = lent c }) ∙ sym (ap (reply-if b c) e)
 
 -- a call that decided n, not 0, and left everything as it was
-pub refused : (s : Session) (c : Call) (n k : ℕ) → ((b : Book) → Reached b → s ≡ sessionOf b → n ≡ number b c) → (n ≡ 0 → ⊥) → k ≡ 0
+pub refused : (s : Session) (c : Call) (n k : ℕ) → ((b : Book) → Reached b → s ≡ sessionOf b → n ≡ number b c) → (n ≡ 0 → ⊥) → k
+    ≡ 0
     → Done s c s (record { number = n; count = k; verdict = false; output = lent c })
 refused s c n k is some none =
     record {
@@ -47,12 +54,14 @@ refused s c n k is some none =
     }
 
 -- what the answer enum reports of a decision
-pub decided-refused : (n : ℕ) (a : Answer) → n ≤ 13 → (n ≡ 0 → ⊥) → (Refusal.number a ≡ min n 13) × (Refusal.count a ≡ cond (eqb n 0) 0 0)
+pub decided-refused : (n : ℕ) (a : Answer) → n ≤ 13 → (n ≡ 0 → ⊥) → (Refusal.number a ≡ min n 13) ×
+    (Refusal.count a ≡ cond (eqb n 0) 0 0)
     → (Refusal.number a ≡ n) × (Refusal.count a ≡ 0)
 decided-refused n a small some e = (e .0 ∙ omega arith, e .1 ∙ ap (λ (t : Bool). cond t 0 0) (ne-eqb n 0 some))
 
 -- the same, by the code's answer
-pub refused-by : (s : Session) (c : Call) (n : ℕ) (a : Answer) → ((b : Book) → Reached b → s ≡ sessionOf b → n ≡ number b c) → n ≤ 13 → (n ≡ 0 → ⊥)
+pub refused-by : (s : Session) (c : Call) (n : ℕ) (a : Answer) → ((b : Book) → Reached b → s ≡ sessionOf b → n ≡ number b c) → n
+    ≤ 13 → (n ≡ 0 → ⊥)
     → (Refusal.number a ≡ min n 13) × (Refusal.count a ≡ cond (eqb n 0) 0 0)
     → Done s c s (record { number = Refusal.number a; count = Refusal.count a; verdict = false; output = lent c })
 refused-by s c n a is small some e =
@@ -68,12 +77,19 @@ front-beyond : (K old new : List ℕ) (n : ℕ) → n ≡ length K → new ≡ f
 unfolding fronted
 front-beyond K old new n e w = rw (w, e, drop-append-seam K (drop (length K) old))
 
-accepted-reply : (b : Book) (c : Call) {K : List ℕ} {n k : ℕ} {v : Bool} {output : List ℕ} → number b c ≡ 0 → n ≡ 0 → k ≡ length K → K ≡ written b c
+accepted-reply : (b : Book) (c : Call) {K : List ℕ} {n k : ℕ} {v : Bool} {output : List ℕ} → number b c ≡ 0 → n ≡ 0 → k ≡ length
+    K → K ≡ written b c
     → v ≡ verdict b c → output ≡ fronted K (lent c)
     → _≡_ {A = Reply} (record { number = n; count = k; verdict = v; output = output }) (reply b c)
 unfolding reply-if
 accepted-reply b c zero en ek eK ev eo =
-    (λ i. record { number = (en ∙ sym zero) i; count = (ek ∙ ap length eK) i; verdict = ev i; output = (eo ∙ ap (λ (l : List ℕ). fronted l (lent c)) eK) i })
+    (λ i. record {
+      number = (en ∙ sym zero) i;
+      count = (ek ∙ ap length eK) i;
+      verdict = ev i;
+      output =
+          (eo ∙ ap (λ (l : List ℕ). fronted l (lent c)) eK) i;
+    })
     ∙ sym (ap (reply-if b c) (eq-eqb (number b c) 0 zero))
 
 -- a call that decided 0 and wrote K to the front of its lent output; K has a meaning on any session, and is the book's
@@ -91,7 +107,8 @@ accepted s c after K n k v output is to values en ek eo fits =
       size = front-size K (lent c) output k ek fits eo;
       beyond = front-beyond K (lent c) output k ek eo;
       session = λ b reached e. to b reached e (is b reached e) ∙ ap sessionOf (sym (next-accepted b c (is b reached e)));
-      answer = λ b reached e. let w = values b reached e (is b reached e) in accepted-reply b c (is b reached e) en ek (w .0) (w .1) eo;
+      answer = λ b reached e. let w = values b reached e (is b reached e) in accepted-reply b c (is b reached e) en ek (w .0)
+          (w .1) eo;
     }
 
 -- a call that writes nothing, by the code's answer
@@ -101,7 +118,8 @@ pub accepted-plain : (s : Session) (c : Call) (after : Session) (a : Answer) →
     → (Refusal.number a ≡ min 0 13) × (Refusal.count a ≡ cond (eqb 0 0) 0 0) → Done s c after (plain a)
 unfolding fronted
 accepted-plain s c after a none wrote says is to e =
-    accepted s c after [] (Refusal.number a) (Refusal.count a) false [] is to (λ b r p z. (sym (wrote b), sym (says b))) (e .0) (e .1)
+    accepted s c after [] (Refusal.number a) (Refusal.count a) false [] is to (λ b r p z. (sym (wrote b), sym (says b))) (e .0)
+    (e .1)
     (ap (λ (l : List ℕ). drop 0 l) (sym none)) (subst (λ (j : ℕ). j ≤ length (lent c)) (sym (e .1)) zero-le)
 
 -- a call that lends no output reports no bytes, on any session

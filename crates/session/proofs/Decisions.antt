@@ -14,21 +14,25 @@ use Rattle.session.specs.Session.{sessionOf}
 use Rattle.session.proofs.Accepted.{BeginTaken, EarlyTaken, HandshakeTaken, UpdateTaken, begin-zero, early-zero, handshake-zero, application-zero, complete-zero, update-zero}
 
 module _ (s : Session) {n : ℕ} where
-  pub begin-is : (suite kind : ℕ) (psk : List ℕ) → n ≡ beginNumber (s .point) suite kind (length psk) → (b : Book) → Reached b → s ≡ sessionOf b
+  pub begin-is : (suite kind : ℕ) (psk : List ℕ) → n ≡ beginNumber (s .point) suite kind (length psk) → (b : Book) → Reached b →
+      s ≡ sessionOf b
       → n ≡ number b (Begin suite kind psk)
   unfolding number sessionOf
   begin-is suite kind psk en b r e = en ∙ ap (λ (x : Session). beginNumber (x .point) suite kind (length psk)) e
 
-  pub early-is : n ≡ earlyNumber (s .point) (s .stage) (s .early) (s .kind) → (b : Book) → Reached b → s ≡ sessionOf b → n ≡ number b Early
+  pub early-is : n ≡ earlyNumber (s .point) (s .stage) (s .early) (s .kind) → (b : Book) → Reached b → s ≡ sessionOf b → n ≡
+      number b Early
   unfolding number sessionOf
   early-is en b r e = en ∙ ap (λ (x : Session). earlyNumber (x .point) (x .stage) (x .early) (x .kind)) e
 
-  pub handshake-is : (group : ℕ) (secret : List ℕ) → n ≡ handshakeNumber (s .point) (s .stage) (s .kind) group secret → (b : Book) → Reached b → s ≡ sessionOf b
+  pub handshake-is : (group : ℕ) (secret : List ℕ) → n ≡ handshakeNumber (s .point) (s .stage) (s .kind) group secret →
+      (b : Book) → Reached b → s ≡ sessionOf b
       → n ≡ number b (Handshake group secret)
   unfolding number sessionOf
   handshake-is group secret en b r e = en ∙ ap (λ (x : Session). handshakeNumber (x .point) (x .stage) (x .kind) group secret) e
 
-  pub application-is : n ≡ applicationNumber (s .point) (s .stage) → (b : Book) → Reached b → s ≡ sessionOf b → n ≡ number b Application
+  pub application-is : n ≡ applicationNumber (s .point) (s .stage) → (b : Book) → Reached b → s ≡ sessionOf b → n ≡ number b
+      Application
   unfolding number sessionOf
   application-is en b r e = en ∙ ap (λ (x : Session). applicationNumber (x .point) (x .stage)) e
 
@@ -36,13 +40,16 @@ module _ (s : Session) {n : ℕ} where
   unfolding number sessionOf
   complete-is en b r e = en ∙ ap (λ (x : Session). completeNumber (x .point) (x .stage)) e
 
-  pub update-is : (side : ℕ) → n ≡ updateNumber (s .point) side (s .«client_updates») (s .«server_updates») → (b : Book) → Reached b → s ≡ sessionOf b
+  pub update-is : (side : ℕ) → n ≡ updateNumber (s .point) side (s .«client_updates») (s .«server_updates») → (b : Book) →
+      Reached b → s ≡ sessionOf b
       → n ≡ number b (Update side)
   unfolding number sessionOf
-  update-is side en b r e = en ∙ ap (λ (x : Session). updateNumber (x .point) side (x .«client_updates») (x .«server_updates»)) e
+  update-is side en b r e = en ∙ ap (λ (x : Session). updateNumber (x .point) side (x .«client_updates») (x .«server_updates»))
+      e
 
 -- and what their acceptance says of the book
-pub begin-taken : (b : Book) (suite kind : ℕ) (psk : List ℕ) → number b (Begin suite kind psk) ≡ 0 → BeginTaken (b .point) suite kind (length psk)
+pub begin-taken : (b : Book) (suite kind : ℕ) (psk : List ℕ) → number b (Begin suite kind psk) ≡ 0 → BeginTaken (b .point) suite
+    kind (length psk)
 unfolding number
 begin-taken b suite kind psk z = begin-zero (b .point) suite kind (length psk) z
 
@@ -63,14 +70,17 @@ pub complete-taken : (b : Book) → number b Complete ≡ 0 → (b .point ≡ 3)
 unfolding number
 complete-taken b z = complete-zero (b .point) (stageOf b) z
 
-pub update-taken : (b : Book) (side : ℕ) → number b (Update side) ≡ 0 → UpdateTaken (b .point) side (b .clientUpdates) (b .serverUpdates)
+pub update-taken : (b : Book) (side : ℕ) → number b (Update side) ≡ 0 → UpdateTaken (b .point) side (b .clientUpdates)
+    (b .serverUpdates)
 unfolding number
 update-taken b side z = update-zero (b .point) side (b .clientUpdates) (b .serverUpdates) z
 
 -- an update that is accepted is one that its side may still make
 module _ (point side client server : ℕ) {n : ℕ} (en : n ≡ updateNumber point side client server) (z : n ≡ 0) where
   pub client-left : side ≡ 1 → client < 65535
-  client-left is = subst (λ (t : Bool). cond t client server < 65535) (eq-eqb side 1 is) (update-zero point side client server (sym en ∙ z) .left)
+  client-left is = subst (λ (t : Bool). cond t client server < 65535) (eq-eqb side 1 is)
+      (update-zero point side client server (sym en ∙ z) .left)
 
   pub server-left : (side ≡ 1 → ⊥) → server < 65535
-  server-left is = subst (λ (t : Bool). cond t client server < 65535) (ne-eqb side 1 is) (update-zero point side client server (sym en ∙ z) .left)
+  server-left is = subst (λ (t : Bool). cond t client server < 65535) (ne-eqb side 1 is)
+      (update-zero point side client server (sym en ∙ z) .left)

@@ -42,8 +42,10 @@ fed-chain b m master-secret = refl
 fed-secret : (b : Book) (m : List ℕ) (x : Secret) → until x ≤ stageOf b → secretOf x (note b (Feed m)) ≡ secretOf x b
 unfolding secretOf note
 fed-secret b m x h =
-    ap (λ (c : List ℕ). deriveSecret (b .suite) c (label x) (transcript (upTo (until x) 0 (b .messages ++ (m ∷ []))))) (fed-chain b m (from x))
-    ∙ ap (λ (ms : List (List ℕ)). deriveSecret (b .suite) (chainOf (from x) b) (label x) (transcript ms)) (upTo-kept (until x) 0 (b .messages) m h)
+    ap (λ (c : List ℕ). deriveSecret (b .suite) c (label x) (transcript (upTo (until x) 0 (b .messages ++ (m ∷ [])))))
+    (fed-chain b m (from x))
+    ∙ ap (λ (ms : List (List ℕ)). deriveSecret (b .suite) (chainOf (from x) b) (label x) (transcript ms))
+    (upTo-kept (until x) 0 (b .messages) m h)
 
 binder-until : (t : Bool) (n : ℕ) → until (cond t binder-external binder-resumption) ≤ n
 unfolding until
@@ -84,11 +86,13 @@ running-on point stage (at-handshake p h) = ap (λ (n : ℕ). leb 1 n && leb n 4
 running-on point stage (at-application p h) = ap (λ (n : ℕ). leb 1 n && leb n 4) p
 
 -- while messages are taken, the running hash is that of the messages fed
-pub running-open : (s : Session) (b : Book) → s ≡ sessionOf b → Taking (b .point) (stageOf b) → s .transcript ≡ runningOf (variantOf (b .suite)) (transcript (b .messages))
+pub running-open : (s : Session) (b : Book) → s ≡ sessionOf b → Taking (b .point) (stageOf b) → s .transcript ≡ runningOf
+    (variantOf (b .suite)) (transcript (b .messages))
 unfolding sessionOf
 running-open s b e t =
     ap (λ (x : Session). x .transcript) e
-    ∙ ap (λ (x : Bool). cond x (runningOf (variantOf (b .suite)) (transcript (b .messages))) blankRunning) (running-on (b .point) (stageOf b) t)
+    ∙ ap (λ (x : Bool). cond x (runningOf (variantOf (b .suite)) (transcript (b .messages))) blankRunning)
+    (running-on (b .point) (stageOf b) t)
 
 -- and it has counted them
 pub count-is : (s : Session) (b : Book) → s ≡ sessionOf b → Good b → s .transcript .count ≡ fedOf b
@@ -100,7 +104,8 @@ count-is s b e g = ap (λ (x : Session). x .transcript .count) e ∙ go (leb 1 (
     go true h = counted (b .suite) (transcript (b .messages))
     go false h = ap (λ (ms : List (List ℕ)). length (transcript ms)) (sym (g .idle h))
 
-pub fed : (b : Book) (m : List ℕ) (s : Session) (h : Running) (stage : ℕ) → Good b → Taking (b .point) (stageOf b) → s ≡ sessionOf b
+pub fed : (b : Book) (m : List ℕ) (s : Session) (h : Running) (stage : ℕ) → Good b → Taking (b .point) (stageOf b) → s ≡
+    sessionOf b
     → h ≡ runningOf (variantOf (b .suite)) (transcript (b .messages) ++ m) → stage ≡ stageAfter (s .stage) (typeOf m)
     → _≡_ {A = Session} (record {
       suite = s .suite;
@@ -138,20 +143,27 @@ fed b m s h stage g t e eh es =
     (ap (λ (x : Session). x .«client_updates») e)
     (ap (λ (x : Session). x .«server_updates») e)
     (eh ∙ ap (runningOf (variantOf (b .suite))) (sym (transcript-snoc (b .messages) m))
-    ∙ ap (λ (x : Bool). cond x (runningOf (variantOf (b .suite)) (transcript (b .messages ++ (m ∷ [])))) blankRunning) (sym (running-on (b .point) (stageOf b) t)))
+    ∙ ap (λ (x : Bool). cond x (runningOf (variantOf (b .suite)) (transcript (b .messages ++ (m ∷ [])))) blankRunning)
+    (sym (running-on (b .point) (stageOf b) t)))
     (ap (λ (x : Session). x .chain) e)
-    (ap (λ (x : Session). x .«binder_key») e ∙ kept (binderHeld (b .point) (b .kind)) _ _ (λ i. keep (binderOf (b .kind)) (binder-until (eqb (b .kind) 1) (stageOf b))))
+    (ap (λ (x : Session). x .«binder_key») e ∙ kept (binderHeld (b .point) (b .kind)) _ _
+    (λ i. keep (binderOf (b .kind)) (binder-until (eqb (b .kind) 1) (stageOf b))))
     (ap (λ (x : Session). x .«client_early») e ∙ kept (earlyHeld (b .point) (b .ran)) _ _ (λ i. keep client-early (early i)))
-    (ap (λ (x : Session). x .«early_exporter») e ∙ kept (earlyHeld (b .point) (b .ran)) _ _ (λ i. keep early-exporter (early i)))
+    (ap (λ (x : Session). x .«early_exporter») e ∙ kept (earlyHeld (b .point) (b .ran)) _ _
+    (λ i. keep early-exporter (early i)))
     (ap (λ (x : Session). x .«client_handshake») e ∙ kept (handshakeHeld (b .point)) _ _ (λ i. keep client-handshake (hand i)))
     (ap (λ (x : Session). x .«server_handshake») e ∙ kept (handshakeHeld (b .point)) _ _ (λ i. keep server-handshake (hand i)))
-    (ap (λ (x : Session). x .«client_application») e ∙ kept (applicationHeld (b .point)) _ _ (λ i. ap (updated (b .suite) (b .clientUpdates)) (keep client-application (app i))))
-    (ap (λ (x : Session). x .«server_application») e ∙ kept (applicationHeld (b .point)) _ _ (λ i. ap (updated (b .suite) (b .serverUpdates)) (keep server-application (app i))))
+    (ap (λ (x : Session). x .«client_application») e ∙ kept (applicationHeld (b .point)) _ _
+    (λ i. ap (updated (b .suite) (b .clientUpdates)) (keep client-application (app i))))
+    (ap (λ (x : Session). x .«server_application») e ∙ kept (applicationHeld (b .point)) _ _
+    (λ i. ap (updated (b .suite) (b .serverUpdates)) (keep server-application (app i))))
     (ap (λ (x : Session). x .exporter) e ∙ kept (applicationHeld (b .point)) _ _ (λ i. keep exporter (app i)))
-    (ap (λ (x : Session). x .resumption) e ∙ kept (resumptionHeld (b .point)) _ _ (λ i. keep resumption (resumption-stage (b .point) (stageOf b) t i)))
+    (ap (λ (x : Session). x .resumption) e ∙ kept (resumptionHeld (b .point)) _ _
+    (λ i. keep resumption (resumption-stage (b .point) (stageOf b) t i)))
 
 -- the decision is the book's
-pub feed-is : (s : Session) (m : List ℕ) {n : ℕ} → n ≡ feedNumber (s .point) (s .stage) (s .transcript .count) m → (b : Book) → Reached b → s ≡ sessionOf b
+pub feed-is : (s : Session) (m : List ℕ) {n : ℕ} → n ≡ feedNumber (s .point) (s .stage) (s .transcript .count) m → (b : Book) →
+    Reached b → s ≡ sessionOf b
     → n ≡ number b (Feed m)
 unfolding number
 feed-is s m en b r e =
@@ -164,8 +176,10 @@ unfolding number
 feed-taken b m z = feed-zero (b .point) (stageOf b) (fedOf b) m z
 
 -- the running hash goes on
-pub fed-running : (s : Session) (b : Book) (m : List ℕ) {h : Running} → s ≡ sessionOf b → FeedTaken (b .point) (stageOf b) (fedOf b) m
-    → h ≡ absorbed (variantOf (s .suite)) (s .transcript) m → h ≡ runningOf (variantOf (b .suite)) (transcript (b .messages) ++ m)
+pub fed-running : (s : Session) (b : Book) (m : List ℕ) {h : Running} → s ≡ sessionOf b → FeedTaken (b .point) (stageOf b)
+    (fedOf b) m
+    → h ≡ absorbed (variantOf (s .suite)) (s .transcript) m → h ≡ runningOf (variantOf (b .suite))
+    (transcript (b .messages) ++ m)
 fed-running s b m e t eh =
     more (b .suite) (transcript (b .messages)) m (small (t .small)) (running-open s b e (t .where-taken))
     (eh ∙ ap (λ (u : ℕ). absorbed (variantOf u) (s .transcript) m) (suite-is s b e))

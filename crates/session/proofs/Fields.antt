@@ -17,9 +17,11 @@ use Rattle.session.specs.Values.{earlySecretOf, handshakeSecretOf, maste
 use Rattle.session.specs.Session.{place, chainAt, blankRunning, sessionOf}
 
 -- two sessions with equal fields
-pub same-session : {s t : Session} → s .suite ≡ t .suite → s .kind ≡ t .kind → s .early ≡ t .early → s .point ≡ t .point → s .stage ≡ t .stage
+pub same-session : {s t : Session} → s .suite ≡ t .suite → s .kind ≡ t .kind → s .early ≡ t .early → s .point ≡ t .point →
+    s .stage ≡ t .stage
     → s .«client_updates» ≡ t .«client_updates» → s .«server_updates» ≡ t .«server_updates» → s .transcript ≡ t .transcript
-    → s .chain ≡ t .chain → s .«binder_key» ≡ t .«binder_key» → s .«client_early» ≡ t .«client_early» → s .«early_exporter» ≡ t .«early_exporter»
+    → s .chain ≡ t .chain → s .«binder_key» ≡ t .«binder_key» → s .«client_early» ≡ t .«client_early» → s .«early_exporter» ≡
+    t .«early_exporter»
     → s .«client_handshake» ≡ t .«client_handshake» → s .«server_handshake» ≡ t .«server_handshake»
     → s .«client_application» ≡ t .«client_application» → s .«server_application» ≡ t .«server_application»
     → s .exporter ≡ t .exporter → s .resumption ≡ t .resumption → s ≡ t
@@ -77,41 +79,52 @@ module _ (s : Session) (b : Book) (e : s ≡ sessionOf b) where
 
 -- the running hash and the ten places
 module _ (s : Session) (b : Book) (k : ℕ) (e : s ≡ sessionOf b) (p : b .point ≡ k) where
-  pub transcript-at : s .transcript ≡ cond (leb 1 k && leb k 4) (runningOf (variantOf (b .suite)) (transcript (b .messages))) blankRunning
+  pub transcript-at : s .transcript ≡ cond (leb 1 k && leb k 4) (runningOf (variantOf (b .suite)) (transcript (b .messages)))
+      blankRunning
   unfolding sessionOf
-  transcript-at = ap (λ (x : Session). x .transcript) e ∙ ap (λ (n : ℕ). cond (leb 1 n && leb n 4) (runningOf (variantOf (b .suite)) (transcript (b .messages))) blankRunning) p
+  transcript-at = ap (λ (x : Session). x .transcript) e ∙ ap
+      (λ (n : ℕ). cond (leb 1 n && leb n 4) (runningOf (variantOf (b .suite)) (transcript (b .messages))) blankRunning) p
 
-  pub chain-at : s .chain ≡ place (chainHeld k) (cond (eqb k 1) (earlySecretOf b) (cond (eqb k 2) (handshakeSecretOf b) (masterSecretOf b)))
+  pub chain-at : s .chain ≡ place (chainHeld k) (cond (eqb k 1) (earlySecretOf b) (cond (eqb k 2) (handshakeSecretOf b)
+      (masterSecretOf b)))
   unfolding sessionOf
-  chain-at = ap (λ (x : Session). x .chain) e ∙ ap (λ (n : ℕ). place (chainHeld n) (cond (eqb n 1) (earlySecretOf b) (cond (eqb n 2) (handshakeSecretOf b) (masterSecretOf b)))) p
+  chain-at = ap (λ (x : Session). x .chain) e ∙ ap (λ (n : ℕ). place (chainHeld n) (cond (eqb n 1) (earlySecretOf b)
+      (cond (eqb n 2) (handshakeSecretOf b) (masterSecretOf b)))) p
 
   pub binder-key-at : s .«binder_key» ≡ place (binderHeld k (b .kind)) (secretOf (binderOf (b .kind)) b)
   unfolding sessionOf
-  binder-key-at = ap (λ (x : Session). x .«binder_key») e ∙ ap (λ (n : ℕ). place (binderHeld n (b .kind)) (secretOf (binderOf (b .kind)) b)) p
+  binder-key-at = ap (λ (x : Session). x .«binder_key») e ∙ ap (λ (n : ℕ). place (binderHeld n (b .kind)) (secretOf (binderOf
+      (b .kind)) b)) p
 
   pub client-early-at : s .«client_early» ≡ place (earlyHeld k (b .ran)) (secretOf client-early b)
   unfolding sessionOf
-  client-early-at = ap (λ (x : Session). x .«client_early») e ∙ ap (λ (n : ℕ). place (earlyHeld n (b .ran)) (secretOf client-early b)) p
+  client-early-at = ap (λ (x : Session). x .«client_early») e ∙ ap
+      (λ (n : ℕ). place (earlyHeld n (b .ran)) (secretOf client-early b)) p
 
   pub early-exporter-at : s .«early_exporter» ≡ place (earlyHeld k (b .ran)) (secretOf early-exporter b)
   unfolding sessionOf
-  early-exporter-at = ap (λ (x : Session). x .«early_exporter») e ∙ ap (λ (n : ℕ). place (earlyHeld n (b .ran)) (secretOf early-exporter b)) p
+  early-exporter-at = ap (λ (x : Session). x .«early_exporter») e ∙ ap
+      (λ (n : ℕ). place (earlyHeld n (b .ran)) (secretOf early-exporter b)) p
 
   pub client-handshake-at : s .«client_handshake» ≡ place (handshakeHeld k) (secretOf client-handshake b)
   unfolding sessionOf
-  client-handshake-at = ap (λ (x : Session). x .«client_handshake») e ∙ ap (λ (n : ℕ). place (handshakeHeld n) (secretOf client-handshake b)) p
+  client-handshake-at = ap (λ (x : Session). x .«client_handshake») e ∙ ap
+      (λ (n : ℕ). place (handshakeHeld n) (secretOf client-handshake b)) p
 
   pub server-handshake-at : s .«server_handshake» ≡ place (handshakeHeld k) (secretOf server-handshake b)
   unfolding sessionOf
-  server-handshake-at = ap (λ (x : Session). x .«server_handshake») e ∙ ap (λ (n : ℕ). place (handshakeHeld n) (secretOf server-handshake b)) p
+  server-handshake-at = ap (λ (x : Session). x .«server_handshake») e ∙ ap
+      (λ (n : ℕ). place (handshakeHeld n) (secretOf server-handshake b)) p
 
   pub client-application-at : s .«client_application» ≡ place (applicationHeld k) (clientApplication b)
   unfolding sessionOf
-  client-application-at = ap (λ (x : Session). x .«client_application») e ∙ ap (λ (n : ℕ). place (applicationHeld n) (clientApplication b)) p
+  client-application-at = ap (λ (x : Session). x .«client_application») e ∙ ap
+      (λ (n : ℕ). place (applicationHeld n) (clientApplication b)) p
 
   pub server-application-at : s .«server_application» ≡ place (applicationHeld k) (serverApplication b)
   unfolding sessionOf
-  server-application-at = ap (λ (x : Session). x .«server_application») e ∙ ap (λ (n : ℕ). place (applicationHeld n) (serverApplication b)) p
+  server-application-at = ap (λ (x : Session). x .«server_application») e ∙ ap
+      (λ (n : ℕ). place (applicationHeld n) (serverApplication b)) p
 
   pub exporter-at : s .exporter ≡ place (applicationHeld k) (secretOf exporter b)
   unfolding sessionOf

@@ -30,23 +30,29 @@ pub data Moves : Call → (point kind ran after kindAfter ranAfter : ℕ) → Ty
   reads-binder : {p k r : ℕ} {h o : List ℕ} → Moves (Binder h o) p k r p k r
   reads-export : {n a p k r : ℕ} {l c o : List ℕ} → Moves (Export n l c a o) p k r p k r
 
-pub moves : (b : Book) (c : Call) → number b c ≡ 0 → Moves c (b .point) (b .kind) (b .ran) (note b c .point) (note b c .kind) (note b c .ran)
+pub moves : (b : Book) (c : Call) → number b c ≡ 0 → Moves c (b .point) (b .kind) (b .ran) (note b c .point) (note b c .kind)
+    (note b c .ran)
 unfolding number note
 moves b (Begin suite kind psk) z =
-    subst (λ (p : ℕ). Moves (Begin suite kind psk) p (b .kind) (b .ran) 1 kind 0) (sym (begin-zero (b .point) suite kind (length psk) z .at)) begins
+    subst (λ (p : ℕ). Moves (Begin suite kind psk) p (b .kind) (b .ran) 1 kind 0)
+    (sym (begin-zero (b .point) suite kind (length psk) z .at)) begins
 moves b (Feed message) z = feeds
 moves b Early z =
     let t = early-zero (b .point) (stageOf b) (b .ran) (b .kind) z in
     subst (λ (p : ℕ). Moves Early p (b .kind) (b .ran) p (b .kind) 1) (sym (t .at))
     (subst (λ (r : ℕ). Moves Early 1 (b .kind) r 1 (b .kind) 1) (sym (t .once)) runs)
 moves b (Handshake group secret) z =
-    subst (λ (p : ℕ). Moves (Handshake group secret) p (b .kind) (b .ran) 2 (b .kind) (b .ran)) (sym (handshake-zero (b .point) (stageOf b) (b .kind) group secret z .at)) shakes
+    subst (λ (p : ℕ). Moves (Handshake group secret) p (b .kind) (b .ran) 2 (b .kind) (b .ran))
+    (sym (handshake-zero (b .point) (stageOf b) (b .kind) group secret z .at)) shakes
 moves b Application z =
-    subst (λ (p : ℕ). Moves Application p (b .kind) (b .ran) 3 (b .kind) (b .ran)) (sym (application-zero (b .point) (stageOf b) z .0)) applies
+    subst (λ (p : ℕ). Moves Application p (b .kind) (b .ran) 3 (b .kind) (b .ran))
+    (sym (application-zero (b .point) (stageOf b) z .0)) applies
 moves b Complete z =
-    subst (λ (p : ℕ). Moves Complete p (b .kind) (b .ran) 4 (b .kind) (b .ran)) (sym (complete-zero (b .point) (stageOf b) z .0)) completes
+    subst (λ (p : ℕ). Moves Complete p (b .kind) (b .ran) 4 (b .kind) (b .ran))
+    (sym (complete-zero (b .point) (stageOf b) z .0)) completes
 moves b (Update side) z =
-    subst (λ (p : ℕ). Moves (Update side) p (b .kind) (b .ran) p (b .kind) (b .ran)) (sym (update-zero (b .point) side (b .clientUpdates) (b .serverUpdates) z .at)) updates
+    subst (λ (p : ℕ). Moves (Update side) p (b .kind) (b .ran) p (b .kind) (b .ran))
+    (sym (update-zero (b .point) side (b .clientUpdates) (b .serverUpdates) z .at)) updates
 moves b Close z = closes
 moves b (Keys name output) z = reads-keys
 moves b (Finished side output) z = reads-finished

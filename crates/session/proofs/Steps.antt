@@ -34,16 +34,21 @@ use Rattle.session.proofs.Secrets.{binder-secret, hash-of, derived-plac
 use Rattle.session.proofs.Fields.{same-session, suite-is, kind-is, ran-is, point-is, stage-is, client-updates-is, server-updates-is, transcript-at, chain-at, binder-key-at, client-early-at, early-exporter-at, client-handshake-at, server-handshake-at, client-application-at, server-application-at, exporter-at, resumption-at}
 
 begun-binder : (b : Book) (suite kind : ℕ) (psk : List ℕ) {chain : List ℕ} → chain ≡ placed (earlySecret suite psk)
-    → deriveSecret suite (take (hashLen suite) chain) (label (binderOf kind)) [] ≡ secretOf (binderOf kind) (note b (Begin suite kind psk))
+    → deriveSecret suite (take (hashLen suite) chain) (label (binderOf kind)) [] ≡ secretOf (binderOf kind)
+    (note b (Begin suite kind psk))
 unfolding note earlySecretOf
 begun-binder b suite kind psk ec =
-    ap (λ (l : List ℕ). deriveSecret suite l (label (binderOf kind)) []) (ap (take (hashLen suite)) ec ∙ take-placed (hashLen suite) (earlySecret suite psk) (early-of (note b (Begin suite kind psk))))
+    ap (λ (l : List ℕ). deriveSecret suite l (label (binderOf kind)) [])
+    (ap (take (hashLen suite)) ec ∙ take-placed (hashLen suite) (earlySecret suite psk)
+    (early-of (note b (Begin suite kind psk))))
     ∙ sym (binder-secret (note b (Begin suite kind psk)))
 
 -- Begin
-pub begun : (b : Book) (suite kind : ℕ) (psk : List ℕ) (z : Session) {chain binder : List ℕ} {running : Running} → z ≡ sessionOf (blankAt 0) → length psk ≤ 128
+pub begun : (b : Book) (suite kind : ℕ) (psk : List ℕ) (z : Session) {chain binder : List ℕ} {running : Running} → z ≡ sessionOf
+    (blankAt 0) → length psk ≤ 128
     → chain ≡ placed (earlySecret suite (within maxMessage psk))
-    → binder ≡ place (not (eqb kind 0)) (deriveSecret suite (take (hashLen suite) chain) (label (binderOf kind)) []) → running ≡ start (variantOf suite)
+    → binder ≡ place (not (eqb kind 0)) (deriveSecret suite (take (hashLen suite) chain) (label (binderOf kind)) []) → running ≡
+    start (variantOf suite)
     → _≡_ {A = Session} (record {
       suite = suite;
       kind = kind;
@@ -92,7 +97,8 @@ begun b suite kind psk z {chain} {binder} ez small ec eb er =
 pub earlied : (b : Book) (s : Session) {d client exporting : List ℕ} → Good b → b .point ≡ 1 → stageOf b ≡ 1 → s ≡ sessionOf b
     → d ≡ finished (variantOf (s .suite)) (s .transcript)
     → client ≡ placed (fromHash (s .suite) client-early (take (hashLen (s .suite)) (s .chain)) (take (hashLen (s .suite)) d))
-    → exporting ≡ placed (fromHash (s .suite) early-exporter (take (hashLen (s .suite)) (s .chain)) (take (hashLen (s .suite)) d))
+    → exporting ≡ placed (fromHash (s .suite) early-exporter (take (hashLen (s .suite)) (s .chain))
+    (take (hashLen (s .suite)) d))
     → _≡_ {A = Session} (record {
       suite = s .suite;
       kind = s .kind;
@@ -114,7 +120,8 @@ pub earlied : (b : Book) (s : Session) {d client exporting : List ℕ} → Good 
       resumption = s .resumption;
     })
     (sessionOf (note b Early))
-unfolding sessionOf note secretOf from until chainOf earlySecretOf handshakeSecretOf masterSecretOf clientApplication serverApplication
+unfolding sessionOf note secretOf from until chainOf earlySecretOf handshakeSecretOf masterSecretOf clientApplication
+    serverApplication
 earlied b s g p one e ed ec ee =
     let h = hash-of s b 1 e p refl (g .fed) ed in
     let all = g .hello p one in
@@ -128,9 +135,12 @@ earlied b s g p one e ed ec ee =
     (ap (λ (x : Session). x .«server_updates») e)
     (ap (λ (x : Session). x .transcript) e)
     (ap (λ (x : Session). x .chain) e)
-    (ap (λ (x : Session). x .«binder_key») e ∙ ap (place (binderHeld (b .point) (b .kind))) (binder-secret b ∙ sym (binder-secret (note b Early))))
-    (derived-place s b client-early (earlySecretOf b) 1 all (suite-is s b e) (chain-at s b 1 e p) (early-of b) h ec ∙ ap (λ (n : ℕ). place (leb 1 n && leb n 3) (secretOf client-early b)) (sym p))
-    (derived-place s b early-exporter (earlySecretOf b) 1 all (suite-is s b e) (chain-at s b 1 e p) (early-of b) h ee ∙ ap (λ (n : ℕ). place (leb 1 n && leb n 3) (secretOf early-exporter b)) (sym p))
+    (ap (λ (x : Session). x .«binder_key») e ∙ ap (place (binderHeld (b .point) (b .kind)))
+    (binder-secret b ∙ sym (binder-secret (note b Early))))
+    (derived-place s b client-early (earlySecretOf b) 1 all (suite-is s b e) (chain-at s b 1 e p) (early-of b) h ec ∙ ap
+    (λ (n : ℕ). place (leb 1 n && leb n 3) (secretOf client-early b)) (sym p))
+    (derived-place s b early-exporter (earlySecretOf b) 1 all (suite-is s b e) (chain-at s b 1 e p) (early-of b) h ee ∙ ap
+    (λ (n : ℕ). place (leb 1 n && leb n 3) (secretOf early-exporter b)) (sym p))
     (ap (λ (x : Session). x .«client_handshake») e)
     (ap (λ (x : Session). x .«server_handshake») e)
     (ap (λ (x : Session). x .«client_application») e)
@@ -138,17 +148,22 @@ earlied b s g p one e ed ec ee =
     (ap (λ (x : Session). x .exporter) e)
     (ap (λ (x : Session). x .resumption) e)
 
-handshake-chain : (b : Book) (group : ℕ) (secret : List ℕ) (s : Session) {chain : List ℕ} → b .point ≡ 1 → length secret ≤ 1024 → s ≡ sessionOf b
+handshake-chain : (b : Book) (group : ℕ) (secret : List ℕ) (s : Session) {chain : List ℕ} → b .point ≡ 1 → length secret ≤ 1024
+    → s ≡ sessionOf b
     → chain ≡ placed (handshakeSecret (s .suite) (take (hashLen (s .suite)) (s .chain)) (within maxMessage secret))
     → chain ≡ placed (handshakeSecretOf (note b (Handshake group secret)))
 unfolding note handshakeSecretOf earlySecretOf
 handshake-chain b group secret s p small e ek =
     ek ∙ ap (λ (u : ℕ). placed (handshakeSecret u (take (hashLen u) (s .chain)) (within maxMessage secret))) (suite-is s b e)
-    ∙ ap (λ (l : List ℕ). placed (handshakeSecret (b .suite) l (within maxMessage secret))) (ap (take (hashLen (b .suite))) (chain-at s b 1 e p) ∙ take-placed (hashLen (b .suite)) (earlySecret (b .suite) (b .psk)) (early-of b))
-    ∙ ap (λ (l : List ℕ). placed (handshakeSecret (b .suite) (earlySecret (b .suite) (b .psk)) l)) (within-limit maxMessage secret (omega arith))
+    ∙ ap (λ (l : List ℕ). placed (handshakeSecret (b .suite) l (within maxMessage secret)))
+    (ap (take (hashLen (b .suite))) (chain-at s b 1 e p) ∙ take-placed (hashLen (b .suite))
+    (earlySecret (b .suite) (b .psk)) (early-of b))
+    ∙ ap (λ (l : List ℕ). placed (handshakeSecret (b .suite) (earlySecret (b .suite) (b .psk)) l))
+    (within-limit maxMessage secret (omega arith))
 
 -- Handshake
-pub shaken : (b : Book) (group : ℕ) (secret : List ℕ) (s : Session) {d chain client server none : List ℕ} → Good b → b .point ≡ 1 → length secret ≤ 1024 → s ≡ sessionOf b
+pub shaken : (b : Book) (group : ℕ) (secret : List ℕ) (s : Session) {d chain client server none : List ℕ} → Good b → b .point ≡
+    1 → length secret ≤ 1024 → s ≡ sessionOf b
     → d ≡ finished (variantOf (s .suite)) (s .transcript)
     → chain ≡ placed (handshakeSecret (s .suite) (take (hashLen (s .suite)) (s .chain)) (within maxMessage secret))
     → client ≡ placed (fromHash (s .suite) client-handshake (take (hashLen (s .suite)) chain) (take (hashLen (s .suite)) d))
@@ -175,11 +190,13 @@ pub shaken : (b : Book) (group : ℕ) (secret : List ℕ) (s : Session) {d chain
       resumption = s .resumption;
     })
     (sessionOf (note b (Handshake group secret)))
-unfolding sessionOf note secretOf from until chainOf earlySecretOf handshakeSecretOf masterSecretOf clientApplication serverApplication
+unfolding sessionOf note secretOf from until chainOf earlySecretOf handshakeSecretOf masterSecretOf clientApplication
+    serverApplication
 shaken b group secret s {chain = chain} g p small e ed ek ec es en =
     let h = hash-of s b 1 e p refl (g .fed) ed in
     let all = g .hellos p in
-    let k : chain ≡ placed (handshakeSecretOf (note b (Handshake group secret))) = handshake-chain b group secret s p small e ek in
+    let k : chain ≡ placed (handshakeSecretOf (note b (Handshake group secret))) = handshake-chain b group secret s p small e ek
+    in
     same-session
     (suite-is s b e)
     (kind-is s b e)
@@ -193,8 +210,10 @@ shaken b group secret s {chain = chain} g p small e ed ek ec es en =
     en
     (client-early-at s b 1 e p)
     (early-exporter-at s b 1 e p)
-    (derived-place s b client-handshake (handshakeSecretOf (note b (Handshake group secret))) 2 all (suite-is s b e) k (handshake-of (note b (Handshake group secret))) h ec)
-    (derived-place s b server-handshake (handshakeSecretOf (note b (Handshake group secret))) 2 all (suite-is s b e) k (handshake-of (note b (Handshake group secret))) h es)
+    (derived-place s b client-handshake (handshakeSecretOf (note b (Handshake group secret))) 2 all (suite-is s b e) k
+    (handshake-of (note b (Handshake group secret))) h ec)
+    (derived-place s b server-handshake (handshakeSecretOf (note b (Handshake group secret))) 2 all (suite-is s b e) k
+    (handshake-of (note b (Handshake group secret))) h es)
     (client-application-at s b 1 e p)
     (server-application-at s b 1 e p)
     (exporter-at s b 1 e p)
@@ -205,7 +224,8 @@ master-chain : (b : Book) (s : Session) {chain : List ℕ} → b .point ≡ 2 �
 unfolding masterSecretOf
 master-chain b s p e ek =
     ek ∙ ap (λ (u : ℕ). placed (masterSecret u (take (hashLen u) (s .chain)))) (suite-is s b e)
-    ∙ ap (λ (l : List ℕ). placed (masterSecret (b .suite) l)) (ap (take (hashLen (b .suite))) (chain-at s b 2 e p) ∙ take-placed (hashLen (b .suite)) (handshakeSecretOf b) (handshake-of b))
+    ∙ ap (λ (l : List ℕ). placed (masterSecret (b .suite) l)) (ap (take (hashLen (b .suite))) (chain-at s b 2 e p) ∙ take-placed
+    (hashLen (b .suite)) (handshakeSecretOf b) (handshake-of b))
 
 -- Application
 pub applied : (b : Book) (s : Session) {d chain client server exporting : List ℕ} → Good b → b .point ≡ 2 → s ≡ sessionOf b
@@ -235,7 +255,8 @@ pub applied : (b : Book) (s : Session) {d chain client server exporting : List �
       resumption = s .resumption;
     })
     (sessionOf (note b Application))
-unfolding sessionOf note secretOf from until chainOf earlySecretOf handshakeSecretOf masterSecretOf clientApplication serverApplication updated
+unfolding sessionOf note secretOf from until chainOf earlySecretOf handshakeSecretOf masterSecretOf clientApplication
+    serverApplication updated
 applied b s {chain = chain} g p e ed ek ec es ee =
     let h = hash-of s b 2 e p refl (g .fed) ed in
     let all = g .server p .0 in
@@ -256,8 +277,10 @@ applied b s {chain = chain} g p e ed ek ec es ee =
     (early-exporter-at s b 2 e p)
     (client-handshake-at s b 2 e p)
     (server-handshake-at s b 2 e p)
-    (derived-place s b client-application (masterSecretOf b) 3 all (suite-is s b e) k (master-of b) h ec ∙ ap (λ (n : ℕ). placed (updated (b .suite) n (secretOf client-application b))) (sym (still .0)))
-    (derived-place s b server-application (masterSecretOf b) 3 all (suite-is s b e) k (master-of b) h es ∙ ap (λ (n : ℕ). placed (updated (b .suite) n (secretOf server-application b))) (sym (still .1)))
+    (derived-place s b client-application (masterSecretOf b) 3 all (suite-is s b e) k (master-of b) h ec ∙ ap
+    (λ (n : ℕ). placed (updated (b .suite) n (secretOf client-application b))) (sym (still .0)))
+    (derived-place s b server-application (masterSecretOf b) 3 all (suite-is s b e) k (master-of b) h es ∙ ap
+    (λ (n : ℕ). placed (updated (b .suite) n (secretOf server-application b))) (sym (still .1)))
     (derived-place s b exporter (masterSecretOf b) 3 all (suite-is s b e) k (master-of b) h ee)
     (resumption-at s b 2 e p)
   where
@@ -294,12 +317,15 @@ pub completed : (b : Book) (s : Session) {d made none : List ℕ} → Good b →
       resumption = made;
     })
     (sessionOf (note b Complete))
-unfolding sessionOf note secretOf from until chainOf earlySecretOf handshakeSecretOf masterSecretOf clientApplication serverApplication
+unfolding sessionOf note secretOf from until chainOf earlySecretOf handshakeSecretOf masterSecretOf clientApplication
+    serverApplication
 completed b s {none = none} g p e ed em en =
     let h = hash-of s b 3 e p refl (g .fed) ed in
     let all = g .client p .0 in
-    let zero : none ≡ cond (eqb (b .ran) 1 && false) (placed (secretOf client-early b)) (zeros 48) = en ∙ sym (never (eqb (b .ran) 1) _ _) in
-    let zero2 : none ≡ cond (eqb (b .ran) 1 && false) (placed (secretOf early-exporter b)) (zeros 48) = en ∙ sym (never (eqb (b .ran) 1) _ _) in
+    let zero : none ≡ cond (eqb (b .ran) 1 && false) (placed (secretOf client-early b)) (zeros 48) = en ∙ sym
+    (never (eqb (b .ran) 1) _ _) in
+    let zero2 : none ≡ cond (eqb (b .ran) 1 && false) (placed (secretOf early-exporter b)) (zeros 48) = en ∙ sym
+    (never (eqb (b .ran) 1) _ _) in
     same-session
     (suite-is s b e)
     (kind-is s b e)
@@ -322,7 +348,8 @@ completed b s {none = none} g p e ed em en =
 
 -- Update of the client's side
 pub updated-client : (b : Book) (s : Session) (side count : ℕ) {made : List ℕ} → b .point ≡ 4 → side ≡ 1 → s ≡ sessionOf b
-    → made ≡ placed (nextTrafficSecret (s .suite) (take (hashLen (s .suite)) (s .«client_application»))) → count ≡ s .«client_updates» + 1
+    → made ≡ placed (nextTrafficSecret (s .suite) (take (hashLen (s .suite)) (s .«client_application»))) → count ≡
+    s .«client_updates» + 1
     → _≡_ {A = Session} (record {
       suite = s .suite;
       kind = s .kind;
@@ -344,7 +371,8 @@ pub updated-client : (b : Book) (s : Session) (side count : ℕ) {made : List �
       resumption = s .resumption;
     })
     (sessionOf (note b (Update side)))
-unfolding sessionOf note secretOf from until chainOf earlySecretOf handshakeSecretOf masterSecretOf clientApplication serverApplication updated
+unfolding sessionOf note secretOf from until chainOf earlySecretOf handshakeSecretOf masterSecretOf clientApplication
+    serverApplication updated
 updated-client b s side count p is e em ec =
     let t : eqb side 1 ≡ true = eq-eqb side 1 is in
     same-session
@@ -353,23 +381,31 @@ updated-client b s side count p is e em ec =
     (ap (λ (x : Session). x .early) e)
     (ap (λ (x : Session). x .point) e)
     (ap (λ (x : Session). x .stage) e)
-    (ec ∙ ap (λ (n : ℕ). n + 1) (client-updates-is s b e) ∙ ap (λ (x : Bool). cond x (b .clientUpdates + 1) (b .clientUpdates)) (sym t))
+    (ec ∙ ap (λ (n : ℕ). n + 1) (client-updates-is s b e) ∙ ap (λ (x : Bool). cond x (b .clientUpdates + 1) (b .clientUpdates))
+    (sym t))
     (ap (λ (x : Session). x .«server_updates») e ∙ ap (λ (x : Bool). cond x (b .serverUpdates) (b .serverUpdates + 1)) (sym t))
     (ap (λ (x : Session). x .transcript) e)
     (ap (λ (x : Session). x .chain) e)
-    (ap (λ (x : Session). x .«binder_key») e ∙ ap (place (binderHeld (b .point) (b .kind))) (binder-secret b ∙ sym (binder-secret (note b (Update side)))))
+    (ap (λ (x : Session). x .«binder_key») e ∙ ap (place (binderHeld (b .point) (b .kind)))
+    (binder-secret b ∙ sym (binder-secret (note b (Update side)))))
     (ap (λ (x : Session). x .«client_early») e)
     (ap (λ (x : Session). x .«early_exporter») e)
     (ap (λ (x : Session). x .«client_handshake») e)
     (ap (λ (x : Session). x .«server_handshake») e)
-    (moved-place s b (clientApplication b) em (suite-is s b e) (client-application-at s b 4 e p) (length-clientApplication b) ∙ ap (λ (n : ℕ). placed (updated (b .suite) n (secretOf client-application b))) (sym (add-one (b .clientUpdates))) ∙ ap (λ (n : ℕ). place (applicationHeld n) (updated (b .suite) (b .clientUpdates + 1) (secretOf client-application b))) (sym p) ∙ ap (λ (x : Bool). place (applicationHeld (b .point)) (updated (b .suite) (cond x (b .clientUpdates + 1) (b .clientUpdates)) (secretOf client-application b))) (sym t))
-    (ap (λ (x : Session). x .«server_application») e ∙ ap (λ (x : Bool). place (applicationHeld (b .point)) (updated (b .suite) (cond x (b .serverUpdates) (b .serverUpdates + 1)) (secretOf server-application b))) (sym t))
+    (moved-place s b (clientApplication b) em (suite-is s b e) (client-application-at s b 4 e p) (length-clientApplication b) ∙
+    ap (λ (n : ℕ). placed (updated (b .suite) n (secretOf client-application b))) (sym (add-one (b .clientUpdates))) ∙ ap
+    (λ (n : ℕ). place (applicationHeld n) (updated (b .suite) (b .clientUpdates + 1) (secretOf client-application b)))
+    (sym p) ∙ ap (λ (x : Bool). place (applicationHeld (b .point))
+    (updated (b .suite) (cond x (b .clientUpdates + 1) (b .clientUpdates)) (secretOf client-application b))) (sym t))
+    (ap (λ (x : Session). x .«server_application») e ∙ ap (λ (x : Bool). place (applicationHeld (b .point)) (updated (b .suite)
+    (cond x (b .serverUpdates) (b .serverUpdates + 1)) (secretOf server-application b))) (sym t))
     (ap (λ (x : Session). x .exporter) e)
     (ap (λ (x : Session). x .resumption) e)
 
 -- Update of the server's side
 pub updated-server : (b : Book) (s : Session) (side count : ℕ) {made : List ℕ} → b .point ≡ 4 → (side ≡ 1 → ⊥) → s ≡ sessionOf b
-    → made ≡ placed (nextTrafficSecret (s .suite) (take (hashLen (s .suite)) (s .«server_application»))) → count ≡ s .«server_updates» + 1
+    → made ≡ placed (nextTrafficSecret (s .suite) (take (hashLen (s .suite)) (s .«server_application»))) → count ≡
+    s .«server_updates» + 1
     → _≡_ {A = Session} (record {
       suite = s .suite;
       kind = s .kind;
@@ -391,7 +427,8 @@ pub updated-server : (b : Book) (s : Session) (side count : ℕ) {made : List �
       resumption = s .resumption;
     })
     (sessionOf (note b (Update side)))
-unfolding sessionOf note secretOf from until chainOf earlySecretOf handshakeSecretOf masterSecretOf clientApplication serverApplication updated
+unfolding sessionOf note secretOf from until chainOf earlySecretOf handshakeSecretOf masterSecretOf clientApplication
+    serverApplication updated
 updated-server b s side count p is e em ec =
     let t : eqb side 1 ≡ false = ne-eqb side 1 is in
     same-session
@@ -401,16 +438,23 @@ updated-server b s side count p is e em ec =
     (ap (λ (x : Session). x .point) e)
     (ap (λ (x : Session). x .stage) e)
     (ap (λ (x : Session). x .«client_updates») e ∙ ap (λ (x : Bool). cond x (b .clientUpdates + 1) (b .clientUpdates)) (sym t))
-    (ec ∙ ap (λ (n : ℕ). n + 1) (server-updates-is s b e) ∙ ap (λ (x : Bool). cond x (b .serverUpdates) (b .serverUpdates + 1)) (sym t))
+    (ec ∙ ap (λ (n : ℕ). n + 1) (server-updates-is s b e) ∙ ap (λ (x : Bool). cond x (b .serverUpdates) (b .serverUpdates + 1))
+    (sym t))
     (ap (λ (x : Session). x .transcript) e)
     (ap (λ (x : Session). x .chain) e)
-    (ap (λ (x : Session). x .«binder_key») e ∙ ap (place (binderHeld (b .point) (b .kind))) (binder-secret b ∙ sym (binder-secret (note b (Update side)))))
+    (ap (λ (x : Session). x .«binder_key») e ∙ ap (place (binderHeld (b .point) (b .kind)))
+    (binder-secret b ∙ sym (binder-secret (note b (Update side)))))
     (ap (λ (x : Session). x .«client_early») e)
     (ap (λ (x : Session). x .«early_exporter») e)
     (ap (λ (x : Session). x .«client_handshake») e)
     (ap (λ (x : Session). x .«server_handshake») e)
-    (ap (λ (x : Session). x .«client_application») e ∙ ap (λ (x : Bool). place (applicationHeld (b .point)) (updated (b .suite) (cond x (b .clientUpdates + 1) (b .clientUpdates)) (secretOf client-application b))) (sym t))
-    (moved-place s b (serverApplication b) em (suite-is s b e) (server-application-at s b 4 e p) (length-serverApplication b) ∙ ap (λ (n : ℕ). placed (updated (b .suite) n (secretOf server-application b))) (sym (add-one (b .serverUpdates))) ∙ ap (λ (n : ℕ). place (applicationHeld n) (updated (b .suite) (b .serverUpdates + 1) (secretOf server-application b))) (sym p) ∙ ap (λ (x : Bool). place (applicationHeld (b .point)) (updated (b .suite) (cond x (b .serverUpdates) (b .serverUpdates + 1)) (secretOf server-application b))) (sym t))
+    (ap (λ (x : Session). x .«client_application») e ∙ ap (λ (x : Bool). place (applicationHeld (b .point)) (updated (b .suite)
+    (cond x (b .clientUpdates + 1) (b .clientUpdates)) (secretOf client-application b))) (sym t))
+    (moved-place s b (serverApplication b) em (suite-is s b e) (server-application-at s b 4 e p) (length-serverApplication b) ∙
+    ap (λ (n : ℕ). placed (updated (b .suite) n (secretOf server-application b))) (sym (add-one (b .serverUpdates))) ∙ ap
+    (λ (n : ℕ). place (applicationHeld n) (updated (b .suite) (b .serverUpdates + 1) (secretOf server-application b)))
+    (sym p) ∙ ap (λ (x : Bool). place (applicationHeld (b .point))
+    (updated (b .suite) (cond x (b .serverUpdates) (b .serverUpdates + 1)) (secretOf server-application b))) (sym t))
     (ap (λ (x : Session). x .exporter) e)
     (ap (λ (x : Session). x .resumption) e)
 

@@ -5,7 +5,9 @@ use Rattle.session.specs.Refusals.{beginNumber, feedNumber, earlyNumber,
 use Rattle.session.specs.Table.{ByTheTable, first, notAllowed, unknown, notHeld, wrongSize, zeroSecret, noSecret, wrongLength, wrongType, tooLong, outOfRange, outputShort, updatesSpent}
 
 pub by-the-table : ByTheTable
-unfolding number beginNumber feedNumber earlyNumber handshakeNumber applicationNumber completeNumber updateNumber keysNumber finishedNumber checkNumber binderNumber exportNumber first notAllowed unknown notHeld wrongSize zeroSecret noSecret wrongLength wrongType tooLong outOfRange outputShort updatesSpent
+unfolding number beginNumber feedNumber earlyNumber handshakeNumber applicationNumber completeNumber updateNumber keysNumber
+    finishedNumber checkNumber binderNumber exportNumber first notAllowed unknown notHeld wrongSize zeroSecret noSecret
+    wrongLength wrongType tooLong outOfRange outputShort updatesSpent
 by-the-table b (Begin suite kind psk) = refl
 by-the-table b (Feed message) = refl
 by-the-table b Early = refl

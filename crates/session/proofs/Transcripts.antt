@@ -10,7 +10,8 @@ use borrow.Author.Tests.{eqb-true, le-leb, lt-leb}
 use Rattle.refusal.proofs.Laws.{and-true}
 use Rattle.session.specs.Messages.{typeOf, stageAfter, stageFrom, upTo, transcript}
 
-pub stage-snoc : (k : ℕ) (ms : List (List ℕ)) (m : List ℕ) → stageFrom k (ms ++ (m ∷ [])) ≡ stageAfter (stageFrom k ms) (typeOf m)
+pub stage-snoc : (k : ℕ) (ms : List (List ℕ)) (m : List ℕ) → stageFrom k (ms ++ (m ∷ [])) ≡ stageAfter (stageFrom k ms)
+    (typeOf m)
 unfolding stageFrom
 stage-snoc k [] m = refl
 stage-snoc k (x ∷ ms) m = stage-snoc (stageAfter k (typeOf x)) ms m
@@ -30,7 +31,8 @@ stage-grows k t =
     grow (eqb k 0 && eqb t 1) k 1 _ (λ e. let z : k ≡ 0 = eqb-true k 0 (and-true (eqb k 0) (eqb t 1) e .0) in omega arith)
     (grow (eqb k 1 && eqb t 2) k 2 _ (λ e. let z : k ≡ 1 = eqb-true k 1 (and-true (eqb k 1) (eqb t 2) e .0) in omega arith)
     (grow (eqb k 2 && eqb t 20) k 3 _ (λ e. let z : k ≡ 2 = eqb-true k 2 (and-true (eqb k 2) (eqb t 20) e .0) in omega arith)
-    (grow (eqb k 3 && eqb t 20) k 4 k (λ e. let z : k ≡ 3 = eqb-true k 3 (and-true (eqb k 3) (eqb t 20) e .0) in omega arith) (le-refl k))))
+    (grow (eqb k 3 && eqb t 20) k 4 k (λ e. let z : k ≡ 3 = eqb-true k 3 (and-true (eqb k 3) (eqb t 20) e .0) in omega arith)
+    (le-refl k))))
 
 stages-grow : (k : ℕ) (ms : List (List ℕ)) → k ≤ stageFrom k ms
 unfolding stageFrom
@@ -41,20 +43,23 @@ stages-grow k (m ∷ ms) = le-trans (stage-grows k (typeOf m)) (stages-grow (sta
 pub upTo-kept : (n k : ℕ) (ms : List (List ℕ)) (m : List ℕ) → n ≤ stageFrom k ms → upTo n k (ms ++ (m ∷ [])) ≡ upTo n k ms
 unfolding upTo stageFrom
 upTo-kept n k [] m h = rw (le-leb n k h)
-upTo-kept n k (x ∷ ms) m h = ap (λ (l : List (List ℕ)). cond (leb n k) [] (x ∷ l)) (upTo-kept n (stageAfter k (typeOf x)) ms m h)
+upTo-kept n k (x ∷ ms) m h = ap (λ (l : List (List ℕ)). cond (leb n k) [] (x ∷ l))
+    (upTo-kept n (stageAfter k (typeOf x)) ms m h)
 
 pub upTo-all : (n k : ℕ) (ms : List (List ℕ)) → stageFrom k ms < n → upTo n k ms ≡ ms
 unfolding upTo stageFrom
 upTo-all n k [] h = refl
 upTo-all n k (x ∷ ms) h =
-    ap (λ (t : Bool). cond t [] (x ∷ upTo n (stageAfter k (typeOf x)) ms)) (lt-leb n k (lt-of-le-of-lt (stages-grow k (x ∷ ms)) h))
+    ap (λ (t : Bool). cond t [] (x ∷ upTo n (stageAfter k (typeOf x)) ms))
+    (lt-leb n k (lt-of-le-of-lt (stages-grow k (x ∷ ms)) h))
     ∙ ap (λ (l : List (List ℕ)). x ∷ l) (upTo-all n (stageAfter k (typeOf x)) ms h)
 
 pub upTo-more : (n k : ℕ) (ms : List (List ℕ)) (m : List ℕ) → stageFrom k ms < n → upTo n k (ms ++ (m ∷ [])) ≡ ms ++ (m ∷ [])
 unfolding upTo stageFrom
 upTo-more n k [] m h = rw (lt-leb n k h)
 upTo-more n k (x ∷ ms) m h =
-    ap (λ (t : Bool). cond t [] (x ∷ upTo n (stageAfter k (typeOf x)) (ms ++ (m ∷ [])))) (lt-leb n k (lt-of-le-of-lt (stages-grow k (x ∷ ms)) h))
+    ap (λ (t : Bool). cond t [] (x ∷ upTo n (stageAfter k (typeOf x)) (ms ++ (m ∷ []))))
+    (lt-leb n k (lt-of-le-of-lt (stages-grow k (x ∷ ms)) h))
     ∙ ap (λ (l : List (List ℕ)). x ∷ l) (upTo-more n (stageAfter k (typeOf x)) ms m h)
 
 pub upTo-none : (ms : List (List ℕ)) → upTo 0 0 ms ≡ []

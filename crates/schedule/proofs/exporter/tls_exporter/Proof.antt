@@ -21,7 +21,11 @@ returns : tie.Need-returns
 unfolding within exporting
 returns c =
     let a = c .before .before .before .before .before .before .before .before .before .before .before .before .before .before .before .args in
-    export-is _ _ (now (a .label)) (now (a .context)) (now (a .out)) (a .asked) (c .before .before .before .before .before .before .before .before .before .before .before .hash-len .ensures .0) (c .before .before .before .before .before .before .before .before .before .before .least .ensures) (c .before .before .before .before .before .before .before .before .over-nothing .ensures) (c .before .before .before .before .before .before .before .digest .ensures) (c .before .before .expand-label .ensures)
+    export-is _ _ (now (a .label)) (now (a .context)) (now (a .out)) (a .asked)
+    (c .before .before .before .before .before .before .before .before .before .before .before .hash-len .ensures .0)
+    (c .before .before .before .before .before .before .before .before .before .before .least .ensures)
+    (c .before .before .before .before .before .before .before .before .over-nothing .ensures)
+    (c .before .before .before .before .before .before .before .digest .ensures) (c .before .before .expand-label .ensures)
 
 pub tls-exporter-spec : {M : Type 1} → statement M
 tls-exporter-spec =

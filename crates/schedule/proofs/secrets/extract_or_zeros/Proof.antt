@@ -15,14 +15,17 @@ slice-aggregate-extract-value-2 c = simp length-take (omega arith)
 
 returns : tie.Need-returns
 returns c =
-    absent-is _ _ (now (c .before .before .before .before .before .before .before .args .input)) (c .before .before .before .before .if1 .taken) (c .before .before .before .before .before .hash-len .ensures .0) (c .before .before .before .zeros48 .ensures) (c .extract-value .ensures)
+    absent-is _ _ (now (c .before .before .before .before .before .before .before .args .input))
+    (c .before .before .before .before .if1 .taken) (c .before .before .before .before .before .hash-len .ensures .0)
+    (c .before .before .before .zeros48 .ensures) (c .extract-value .ensures)
 
 slice-aggregate-extract-value-3 : tie.Need-slice-aggregate-extract-value-3
 slice-aggregate-extract-value-3 c = simp length-take (omega arith)
 
 returns-2 : tie.Need-returns-2
 returns-2 c =
-    present-is _ maxMessage _ (now (c .before .before .before .before .before .args .input)) (omega arith) (c .before .before .if1 .left) (c .before .before .before .hash-len .ensures .0) (c .extract-value2 .ensures)
+    present-is _ maxMessage _ (now (c .before .before .before .before .before .args .input)) (omega arith)
+    (c .before .before .if1 .left) (c .before .before .before .hash-len .ensures .0) (c .extract-value2 .ensures)
 
 pub extract-or-zeros-spec : {M : Type 1} → statement M
 extract-or-zeros-spec =

@@ -6,7 +6,8 @@ use Rattle.schedule.proofs.traffic.next_traffic_secret.Tie as tie
 
 returns : tie.Need-returns
 unfolding trafficUpd
-returns c = update-is _ _ (c .before .before .before .ready .ensures) (c .before .before .before .before .hash-len .ensures .0) (c .label-block .ensures)
+returns c = update-is _ _ (c .before .before .before .ready .ensures) (c .before .before .before .before .hash-len .ensures .0)
+    (c .label-block .ensures)
 
 pub next-traffic-secret-spec : {M : Type 1} → statement M
 next-traffic-secret-spec =

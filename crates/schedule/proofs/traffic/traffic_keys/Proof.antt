@@ -7,8 +7,12 @@ use Rattle.schedule.proofs.traffic.traffic_keys.Tie as tie
 returns : tie.Need-returns
 unfolding key iv
 returns c =
-    let k = c .before .before .before .before .before .before .before .before .ready .ensures in
-    (key-is _ _ k (c .before .before .before .before .before .key-len .ensures .0) (c .before .before .before .before .label-block .ensures), iv-is _ _ k (c .before .iv-len .ensures .0) (c .label-block2 .ensures))
+    let k = c .before .before .before .before .before .before .before .before .ready .ensures in (
+      key-is _ _ k (c .before .before .before .before .before .key-len .ensures .0)
+          (c .before .before .before .before .label-block .ensures),
+      iv-is _ _ k (c .before .iv-len .ensures .0)
+          (c .label-block2 .ensures),
+    )
 
 pub traffic-keys-spec : {M : Type 1} → statement M
 traffic-keys-spec =

@@ -12,7 +12,10 @@ slice-aggregate-mac c = simp length-take (omega arith)
 returns : tie.Need-returns
 unfolding finished
 returns c =
-    verify-is _ _ _ (c .before .before .before .before .before .before .before .before .before .hash-len .ensures .0) (c .before .before .before .before .before .before .before .before .ready .ensures) (c .before .before .before .before .before .label-block .ensures) (c .before .before .before .before .ready2 .ensures) (c .mac .ensures)
+    verify-is _ _ _ (c .before .before .before .before .before .before .before .before .before .hash-len .ensures .0)
+    (c .before .before .before .before .before .before .before .before .ready .ensures)
+    (c .before .before .before .before .before .label-block .ensures) (c .before .before .before .before .ready2 .ensures)
+    (c .mac .ensures)
 
 pub verify-data-spec : {M : Type 1} → statement M
 verify-data-spec =

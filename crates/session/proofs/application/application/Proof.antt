@@ -16,15 +16,22 @@ returns : tie.Need-returns
 unfolding lent
 returns c = let a = c .before .before .before .args in
     let n = c .before .before .application-number .ensures in
-    refused-by _ Application _ (c .decided .result) (application-is (a .s) n) (subst (λ (k : ℕ). k ≤ 13) (sym n) (application-small _ _)) (c .before .if1 .taken) (c .decided .ensures)
+    refused-by _ Application _ (c .decided .result) (application-is (a .s) n)
+    (subst (λ (k : ℕ). k ≤ 13) (sym n) (application-small _ _)) (c .before .if1 .taken) (c .decided .ensures)
 
 returns-2 : tie.Need-returns-2
 unfolding lent written verdict
 returns-2 c = let a = c .before .before .before .before .before .before .before .before .before .before .before .args in
     let n = c .before .before .before .before .before .before .before .before .before .before .application-number .ensures in
     let z = c .before .before .before .before .before .before .before .before .before .if1 .left in
-    accepted-plain (a .s) Application _ (c .decided2 .result) refl (λ b. refl) (λ b. refl) (λ b r e. sym (application-is (a .s) n b r e) ∙ z)
-    (λ b r e y. applied b (a .s) (good r) (application-taken b y .0) e (c .before .before .before .before .before .before .finish .ensures) (c .before .before .before .before .before .master-secret .ensures) (c .before .before .before .before .application-secrets .ensures .0) (c .before .before .before .before .application-secrets .ensures .1) (c .before .before .before .before .application-secrets .ensures .2)) (c .decided2 .ensures)
+    accepted-plain (a .s) Application _ (c .decided2 .result) refl (λ b. refl) (λ b. refl)
+    (λ b r e. sym (application-is (a .s) n b r e) ∙ z)
+    (λ b r e y. applied b (a .s) (good r) (application-taken b y .0) e
+    (c .before .before .before .before .before .before .finish .ensures)
+    (c .before .before .before .before .before .master-secret .ensures)
+    (c .before .before .before .before .application-secrets .ensures .0)
+    (c .before .before .before .before .application-secrets .ensures .1)
+    (c .before .before .before .before .application-secrets .ensures .2)) (c .decided2 .ensures)
 
 pub application-spec : {M : Type 1} → statement M
 application-spec =

@@ -11,7 +11,8 @@ use Rattle.session.proofs.close.close.Tie as tie
 
 returns : tie.Need-returns
 unfolding number lent written verdict
-returns c = accepted-plain _ Close _ (c .decided .result) refl (λ b. refl) (λ b. refl) (λ b r e. refl) (λ b r e z. closed b _ (c .before .fresh .ensures)) (c .decided .ensures)
+returns c = accepted-plain _ Close _ (c .decided .result) refl (λ b. refl) (λ b. refl) (λ b r e. refl)
+    (λ b r e z. closed b _ (c .before .fresh .ensures)) (c .decided .ensures)
 
 pub close-spec : {M : Type 1} → statement M
 close-spec = tie.close (tie.spec (λ c κs. search needs) (λ c κs. search needs) returns)

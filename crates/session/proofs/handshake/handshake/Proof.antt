@@ -17,16 +17,23 @@ returns : tie.Need-returns
 unfolding lent
 returns c = let a = c .before .before .before .before .args in
     let n = c .before .before .handshake-number .ensures in
-    refused-by _ (Handshake (a .group) (now (a .secret))) _ (c .decided .result) (handshake-is (a .s) (a .group) (now (a .secret)) n) (subst (λ (k : ℕ). k ≤ 13) (sym n) (handshake-small _ _ _ _ _)) (c .before .if1 .taken) (c .decided .ensures)
+    refused-by _ (Handshake (a .group) (now (a .secret))) _ (c .decided .result)
+    (handshake-is (a .s) (a .group) (now (a .secret)) n) (subst (λ (k : ℕ). k ≤ 13) (sym n) (handshake-small _ _ _ _ _))
+    (c .before .if1 .taken) (c .decided .ensures)
 
 returns-2 : tie.Need-returns-2
 unfolding lent written verdict
 returns-2 c = let a = c .before .before .before .before .before .before .before .before .before .before .before .before .args in
     let n = c .before .before .before .before .before .before .before .before .before .before .handshake-number .ensures in
     let z = c .before .before .before .before .before .before .before .before .before .if1 .left in
-    accepted-plain (a .s) (Handshake (a .group) (now (a .secret))) _ (c .decided2 .result) refl (λ b. refl) (λ b. refl) (λ b r e. sym (handshake-is (a .s) (a .group) (now (a .secret)) n b r e) ∙ z)
+    accepted-plain (a .s) (Handshake (a .group) (now (a .secret))) _ (c .decided2 .result) refl (λ b. refl) (λ b. refl)
+    (λ b r e. sym (handshake-is (a .s) (a .group) (now (a .secret)) n b r e) ∙ z)
     (λ b r e y. let t = handshake-taken b (a .group) (now (a .secret)) y in
-    shaken b (a .group) (now (a .secret)) (a .s) (good r) (t .at) (t .small) e (c .before .before .before .before .before .before .finish .ensures) (c .before .before .before .before .before .handshake-secret .ensures) (c .before .before .before .before .handshake-secrets .ensures .0) (c .before .before .before .before .handshake-secrets .ensures .1) (c .before .zeros48 .ensures)) (c .decided2 .ensures)
+    shaken b (a .group) (now (a .secret)) (a .s) (good r) (t .at) (t .small) e
+    (c .before .before .before .before .before .before .finish .ensures)
+    (c .before .before .before .before .before .handshake-secret .ensures)
+    (c .before .before .before .before .handshake-secrets .ensures .0)
+    (c .before .before .before .before .handshake-secrets .ensures .1) (c .before .zeros48 .ensures)) (c .decided2 .ensures)
 
 pub handshake-spec : {M : Type 1} → statement M
 handshake-spec =
