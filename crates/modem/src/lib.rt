@@ -1,0 +1,24 @@
+// The session where it lies: the calls that a long-lived session takes, on the record that the caller holds.
+use refusal::Answer;
+use session::record::Session;
+ghost use mathlib.Core.Path.{_≡_};
+ghost use Rattle.session.specs.Call.{Call};
+ghost use Rattle.session.specs.Promise.{Done, plain};
+
+// Feed, on the session behind s.
+pub fn feed(s: &mut Session, message: &[u8]) -> Answer
+    ensures { λ r. ⌜ Done (now (s .entry)) (Call.Feed (now (message .entry))) (now (s .exit)) (plain r) ⌝ }
+{
+    let a = session::feed::feed(*s, message);
+    *s = a.session;
+    a.answer
+}
+
+// Update, on the session behind s.
+pub fn update(s: &mut Session, side: u8) -> Answer
+    ensures { λ r. ⌜ Done (now (s .entry)) (Call.Update side) (now (s .exit)) (plain r) ⌝ }
+{
+    let a = session::update::update(*s, side);
+    *s = a.session;
+    a.answer
+}

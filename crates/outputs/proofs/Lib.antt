@@ -1,0 +1,6 @@
+pub mod Deciding
+pub mod Comparing
+pub mod Writing
+pub mod Places
+pub mod Answers
+pub mod Exporting

@@ -1,0 +1,63 @@
+// Keys: the traffic key and IV of a secret that is held.
+use super::numbers::keys_number;
+use super::values::write_part;
+use refusal::Answer;
+use schedule::traffic::traffic_keys;
+use session::record::Session;
+use suite::Suite;
+ghost use mathlib.Core.Path.{_≡_};
+ghost use Prim.Native.Nat.{_+_, _≤_};
+ghost use lib.ListN.{length, take};
+ghost use Rattle.buffer.specs.Buffer.{fronted};
+ghost use Rattle.suite.specs.Suite.{hashLen, keyLen, ivLen};
+ghost use Rattle.schedule.specs.Schedule.{trafficKeys};
+ghost use Rattle.session.specs.Call.{Call};
+ghost use Rattle.session.specs.Promise.{Done, wrote};
+ghost use Rattle.outputs.specs.Places.{namedPlace};
+
+fn named_place(s: Session, name: u8) -> [u8; 48]
+    ensures { λ r. ⌜ r ≡ namedPlace s name ⌝ }
+{
+    if name == 1 {
+        return s.client_early;
+    }
+    if name == 2 {
+        return s.client_handshake;
+    }
+    if name == 3 {
+        return s.server_handshake;
+    }
+    if name == 4 {
+        return s.client_application;
+    }
+    s.server_application
+}
+
+// Writes the key to the front of out and the IV right behind it, and answers the index behind both.
+fn write_keys(suite: u16, secret: [u8; 48], out: &mut [u8]) -> usize
+    requires { ⌜ keyLen suite + ivLen suite ≤ length (now out) ⌝ }
+    ensures { λ r. ⌜ (r ≡ length (trafficKeys suite (take (hashLen suite) secret))) × (now (out .exit) ≡ fronted (trafficKeys suite (take (hashLen suite) secret)) (now (out .entry))) ⌝ }
+{
+    let made = traffic_keys(suite, secret);
+    let key = made.key;
+    let iv = made.iv;
+    let k = Suite::key_len(suite);
+    let n = Suite::iv_len(suite);
+    let at = write_part(key, k, 0, out);
+    write_part(iv, n, at, out)
+}
+
+// Names: 1 client early, 2 client handshake, 3 server handshake, 4 client application, 5 server application. Refusals 1, 2,
+// 3 and 11.
+pub fn keys(s: Session, name: u8, out: &mut [u8]) -> Answer
+    ensures { λ r. ⌜ Done s (Call.Keys name (now (out .entry))) s (wrote r (now (out .exit))) ⌝ }
+{
+    let number = keys_number(s.point, s.suite, s.early, name, out.len());
+    if number != 0 {
+        return Answer::decided(number, 0);
+    }
+    let suite = s.suite;
+    let secret = named_place(s, name);
+    let count = write_keys(suite, secret, out);
+    Answer::decided(0, count)
+}
