@@ -1,42 +1,34 @@
 // The records of the input, one behind the other.
-use super::lower::answer;
-use super::output::say;
-use super::output::say_bytes;
+use super::changes::change;
+use super::lent::lend;
 use super::output::say_count;
-use super::output::say_head;
+use super::output::say_reply;
 use super::output::say_session;
-use super::reply::Reply;
+use super::reads::make_check;
+use super::reply::Turn;
 use frames::Frame;
 use frames::read;
+use session::record::Session;
+use session::record::fresh;
 
-// The number of records, and whether the last of them is bad.
+// The session, the number of records, and whether the last of them is bad.
 struct Ran {
+    session: Session,
     records: u64,
     bad: bool,
 }
 
-// Makes one call and prints its line; false where it can not be made.
-fn run_one(ordinal: u64, kind: u16, payload: &[u8], out: &mut [u8]) -> bool {
-    let reply = answer(kind, payload, out);
-    let Reply::Made {
-        number,
-        count,
-        room,
-    } = reply
-    else {
-        return false;
-    };
-    if out.len() < room {
-        return false;
+// Makes the call of one record.
+fn run_one(s: Session, kind: u16, payload: &[u8], out: &mut [u8]) -> Turn {
+    match kind {
+        0..=8 => change(s, kind, payload),
+        103 => Turn::same(s, make_check(s, payload)),
+        _ => Turn::same(s, lend(s, kind, payload, out)),
     }
-    say_head(ordinal, kind, number, count);
-    say(b" ");
-    say_bytes(&out[..room]);
-    say(b"\n");
-    true
 }
 
 fn run_all(input: &[u8], out: &mut [u8]) -> Ran {
+    let mut session = fresh();
     let mut at: usize = 0;
     let mut records: u64 = 0;
     while at < input.len() {
@@ -49,15 +41,27 @@ fn run_all(input: &[u8], out: &mut [u8]) -> Ran {
             next,
         } = frame
         else {
-            return Ran { records, bad: true };
+            return Ran {
+                session,
+                records,
+                bad: true,
+            };
         };
-        let good = run_one(records, kind, &input[start..next], out);
+        let turn = run_one(session, kind, &input[start..next], out);
+        session = turn.session;
+        let reply = turn.reply;
+        let good = say_reply(records, kind, reply, out);
         if !good {
-            return Ran { records, bad: true };
+            return Ran {
+                session,
+                records,
+                bad: true,
+            };
         }
         at = next;
     }
     Ran {
+        session,
         records,
         bad: false,
     }
@@ -70,5 +74,5 @@ pub(crate) fn run(input: &[u8], out: &mut [u8]) {
     } else {
         say_count(b"end", ran.records);
     }
-    say_session();
+    say_session(ran.session);
 }

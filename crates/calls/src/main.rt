@@ -1,7 +1,11 @@
 // Runs a list of calls from standard input, and prints what each answers.
+mod changes;
 mod driver;
+mod lent;
 mod lower;
 mod output;
+mod payload;
+mod reads;
 mod reply;
 
 use libc::STDIN_FILENO;

@@ -1,5 +1,7 @@
 // What is printed.
+use super::reply::Reply;
 use libc::STDOUT_FILENO;
+use session::record::Session;
 use text::decimal::put_decimal;
 use text::hex::put_hex;
 ghost use mathlib.Core.Path.{_≡_};
@@ -27,7 +29,7 @@ pub(crate) fn say_count(word: &[u8], n: u64) {
 }
 
 // A record's ordinal and kind, its answer's number and count.
-pub(crate) fn say_head(ordinal: u64, kind: u16, number: u8, count: usize) {
+fn say_head(ordinal: u64, kind: u16, number: u8, count: usize) {
     let mut line = [0u8; 96];
     let a = put_decimal(&mut line, 0, ordinal);
     let b = buffer::put(&mut line, a, b" ");
@@ -53,7 +55,7 @@ fn say_some(bytes: &[u8]) {
 }
 
 // Any number of bytes, as hex digits; - for none.
-pub(crate) fn say_bytes(bytes: &[u8]) {
+fn say_bytes(bytes: &[u8]) {
     if bytes.len() == 0 {
         say(b"-");
         return;
@@ -67,6 +69,46 @@ pub(crate) fn say_bytes(bytes: &[u8]) {
     }
 }
 
+fn say_verdict(yes: bool) {
+    if yes {
+        say(b" yes");
+    } else {
+        say(b" no");
+    }
+}
+
+// The lent bytes: the front of out.
+fn say_room(out: &[u8], room: usize) {
+    say(b" ");
+    if room <= out.len() {
+        say_bytes(&out[..room]);
+    }
+}
+
+// The line of a call; false, and nothing, where none was made.
+pub(crate) fn say_reply(ordinal: u64, kind: u16, reply: Reply, out: &[u8]) -> bool {
+    match reply {
+        Reply::Bad => {
+            return false;
+        }
+        Reply::Made {
+            number,
+            count,
+            room,
+        } => {
+            say_head(ordinal, kind, number, count);
+            say_room(out, room);
+        }
+        Reply::Plain(number) => say_head(ordinal, kind, number, 0),
+        Reply::Judged(number, yes) => {
+            say_head(ordinal, kind, number, 0);
+            say_verdict(yes);
+        }
+    }
+    say(b"\n");
+    true
+}
+
 fn say_place(ordinal: u64, bytes: &[u8]) {
     let mut line = [0u8; 32];
     let a = buffer::put(&mut line, 0, b"place ");
@@ -78,12 +120,16 @@ fn say_place(ordinal: u64, bytes: &[u8]) {
 }
 
 // The session's point and its ten places.
-pub(crate) fn say_session() {
-    say(b"point 0\n");
-    let place = buffer::zeros48();
-    let mut i: u64 = 1;
-    while i <= 10 {
-        say_place(i, &place);
-        i += 1;
-    }
+pub(crate) fn say_session(s: Session) {
+    say_count(b"point", s.point as u64);
+    say_place(1, &s.chain);
+    say_place(2, &s.binder_key);
+    say_place(3, &s.client_early);
+    say_place(4, &s.early_exporter);
+    say_place(5, &s.client_handshake);
+    say_place(6, &s.server_handshake);
+    say_place(7, &s.client_application);
+    say_place(8, &s.server_application);
+    say_place(9, &s.exporter);
+    say_place(10, &s.resumption);
 }

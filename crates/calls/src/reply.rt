@@ -1,5 +1,8 @@
 // What a record's call comes to.
+use outputs::check::Verdict;
 use refusal::Answer;
+use session::record::Outcome;
+use session::record::Session;
 
 pub(crate) enum Reply {
     // The record is no call that can be made.
@@ -10,6 +13,10 @@ pub(crate) enum Reply {
         count: usize,
         room: usize,
     },
+    // The answer's number; nothing is lent.
+    Plain(u8),
+    // The answer's number, and whether the received bytes are the Finished value.
+    Judged(u8, bool),
 }
 
 impl Reply {
@@ -21,5 +28,34 @@ impl Reply {
             count,
             room,
         }
+    }
+
+    pub(crate) fn judged(verdict: Verdict) -> Self {
+        let number = verdict.number();
+        let yes = verdict.is_yes();
+        Reply::Judged(number, yes)
+    }
+}
+
+// The session after a call, and what the call comes to.
+pub(crate) struct Turn {
+    pub(crate) session: Session,
+    pub(crate) reply: Reply,
+}
+
+impl Turn {
+    pub(crate) fn of(outcome: Outcome) -> Self {
+        let session = outcome.session;
+        let answer = outcome.answer;
+        let number = answer.number();
+        Turn {
+            session,
+            reply: Reply::Plain(number),
+        }
+    }
+
+    // A turn that leaves the session as it is.
+    pub(crate) fn same(session: Session, reply: Reply) -> Self {
+        Turn { session, reply }
     }
 }

@@ -2,7 +2,7 @@
 use super::line::behind_space;
 use super::output::say;
 use super::output::say_hex;
-use super::output::say_number;
+use super::output::say_refused;
 use check::same;
 use refusal::refuse_if;
 use sha2::oneshot::hash;
@@ -16,7 +16,7 @@ use text::field::field_end;
 use text::hex::HexRead;
 use text::hex::get_hex;
 ghost use mathlib.Core.Path.{_≡_};
-ghost use Prim.Native.Nat.{_≤_, _<_, min};
+ghost use Prim.Native.Nat.{_≤_, _<_};
 ghost use lib.ListN.{length};
 
 // The most repetitions.
@@ -29,12 +29,6 @@ fn wide(x: u8) -> u16
     ensures { λ r. ⌜ r < 256 ⌝ }
 {
     x as u16
-}
-
-fn least(a: usize, b: usize) -> usize
-    ensures { λ r. ⌜ r ≡ min a b ⌝ }
-{
-    if a < b { a } else { b }
 }
 
 // Fills out with the repeated unit, from that index of it on.
@@ -61,7 +55,7 @@ fn in_pieces(suite: u16, unit: &[u8], total: usize) -> [u8; 48] {
     let mut size: usize = 1;
     let mut done: usize = 0;
     while done < total {
-        let n = least(size, total - done);
+        let n = buffer::least(size, total - done);
         repeat(unit, done, &mut piece);
         let next = absorb(suite, h, &piece[..n]);
         h = next;
@@ -103,8 +97,7 @@ fn answer_message(suite: u16, unit: &[u8], total: usize) {
         say(b"differs");
         return;
     }
-    say(b"refused ");
-    say_number(verdict as u64);
+    say_refused(verdict);
 }
 
 // Bytes: hex digits, or - for none.

@@ -6,7 +6,7 @@ use super::hashing::read_suite;
 use super::line::behind_space;
 use super::output::say;
 use super::output::say_hex;
-use super::output::say_number;
+use super::output::say_refused;
 use refusal::Answer;
 use text::decimal::DecimalRead;
 use text::decimal::get_decimal;
@@ -42,8 +42,7 @@ fn answer_call(keying: Keying, suite: u16, n: usize, a: &[u8], b: &[u8])
         say_hex(&out[..n]);
         return;
     }
-    say(b"refused ");
-    say_number(number as u64);
+    say_refused(number);
 }
 
 fn answer_second(keying: Keying, suite: u16, n: usize, a: &[u8], digits: &[u8])

@@ -1,9 +1,12 @@
 // A line: a name, an operation, and what the operation asks for, with one space between fields.
+use super::calling::answer_session;
 use super::hashing::answer_hash;
-use super::keying::Keying;
 use super::keying::answer_keying;
+use super::names::Operation;
+use super::names::operation_named;
 use super::output::say;
-use check::same;
+use session::record::Session;
+use session::record::fresh;
 use text::field::field_end;
 ghost use mathlib.Core.Path.{_≡_};
 ghost use Prim.Native.Nat.{_+_, _≤_, min};
@@ -35,43 +38,39 @@ pub(crate) fn behind_space(text: &[u8], end: usize) -> usize
     }
 }
 
-// Prints the value of an operation; the operations are told apart here alone.
-fn answer_operation(operation: &[u8], rest: &[u8]) {
-    if same(operation, b"hash") {
-        answer_hash(rest);
-        return;
+// Prints the value of an operation, and answers the session after it.
+fn answer_operation(s: Session, name: &[u8], rest: &[u8]) -> Session {
+    let operation = operation_named(name);
+    match operation {
+        Operation::Hash => answer_hash(rest),
+        Operation::Keying(keying) => answer_keying(keying, rest),
+        Operation::Unknown => say(b"bad line"),
+        _ => {
+            return answer_session(s, operation, rest);
+        }
     }
-    if same(operation, b"hmac") {
-        answer_keying(Keying::Hmac, rest);
-        return;
-    }
-    if same(operation, b"extract") {
-        answer_keying(Keying::Extract, rest);
-        return;
-    }
-    if same(operation, b"expand") {
-        answer_keying(Keying::Expand, rest);
-        return;
-    }
-    say(b"bad line");
+    s
 }
 
-fn answer(line: &[u8]) {
+fn answer(s: Session, line: &[u8]) -> Session {
     let end = field_end(line, 0);
     let from = behind_space(line, end);
     let to = field_end(line, from);
     let rest = behind_space(line, to);
     say(&line[..end]);
     say(b" ");
-    answer_operation(&line[from..to], &line[rest..]);
+    let next = answer_operation(s, &line[from..to], &line[rest..]);
     say(b"\n");
+    next
 }
 
 pub(crate) fn answer_all(text: &[u8]) {
+    let mut session = fresh();
     let mut at: usize = 0;
     while at < text.len() {
         let end = line_end(text, at);
-        answer(&text[at..end]);
+        let next = answer(session, &text[at..end]);
+        session = next;
         at = behind_space(text, end);
     }
 }

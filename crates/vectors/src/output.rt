@@ -1,5 +1,6 @@
 // What is printed.
 use libc::STDOUT_FILENO;
+use refusal::Answer;
 use text::decimal::put_decimal;
 use text::hex::put_hex;
 
@@ -14,7 +15,7 @@ fn say_front(out: &[u8], n: usize) {
     }
 }
 
-pub(crate) fn say_number(n: u64) {
+fn say_number(n: u64) {
     let mut digits = [0u8; 20];
     let end = put_decimal(&mut digits, 0, n);
     say_front(&digits, end);
@@ -25,4 +26,22 @@ pub(crate) fn say_hex(bytes: &[u8]) {
     let mut digits = [0u8; 1024];
     let end = put_hex(&mut digits, 0, bytes);
     say_front(&digits, end);
+}
+
+pub(crate) fn say_refused(number: u8) {
+    say(b"refused ");
+    say_number(number as u64);
+}
+
+// The bytes that an answer reports written to the front of out, at most 512; or the refusal.
+pub(crate) fn say_written(answer: Answer, out: &[u8]) {
+    let number = answer.number();
+    let count = answer.count();
+    if number != 0 {
+        say_refused(number);
+        return;
+    }
+    if count <= out.len() {
+        say_hex(&out[..count]);
+    }
 }

@@ -8,10 +8,10 @@ use Rattle.calls.proofs.driver.run_all.Statement.{statement}
 use Rattle.calls.proofs.driver.run_all.Tie as tie
 
 abbrev Inv-loop : tie.InvT-loop
-Inv-loop input out₀ at₀ records₀ out at records = (records ≤ at) × (at ≤ length input) × (length out ≡ length out₀)
+Inv-loop input out₀ session₀ at₀ records₀ out session at records = (records ≤ at) × (at ≤ length input) × (length out ≡ length out₀)
 
 abbrev μ-loop : tie.MeasureT-loop
-μ-loop input out₀ at₀ records₀ out at records = length input - at
+μ-loop input out₀ session₀ at₀ records₀ out session at records = length input - at
 
 sub-run-one : tie.Need-sub-run-one Inv-loop μ-loop
 sub-run-one c =
@@ -30,12 +30,12 @@ part-run-one-end c =
 
 loop-less : tie.Need-loop-less Inv-loop μ-loop
 loop-less c =
-    let w = within _ _ (sym (c .before .before .before .before .before .before .before .frame .given .1) ∙ c .before .before .before .before .before .before .before .before .before .read .ensures) in
+    let w = within _ _ (sym (c .before .before .before .before .before .before .before .before .before .before .frame .given .1) ∙ c .before .before .before .before .before .before .before .before .before .before .before .before .read .ensures) in
     omega arith
 
 loop-again : tie.Need-loop-again Inv-loop μ-loop
 loop-again c =
-    let w = within _ _ (sym (c .before .before .before .before .before .before .before .frame .given .1) ∙ c .before .before .before .before .before .before .before .before .before .read .ensures) in
+    let w = within _ _ (sym (c .before .before .before .before .before .before .before .before .before .before .frame .given .1) ∙ c .before .before .before .before .before .before .before .before .before .before .before .before .read .ensures) in
     (omega arith, omega arith, search needs)
 
 pub run-all-spec : {M : Type 1} → statement M
@@ -44,6 +44,7 @@ run-all-spec =
     (tie.spec
     Inv-loop
     μ-loop
+    (λ c κs. search needs)
     (λ c. search needs)
     (λ c. search needs)
     (λ c κs. search needs)
@@ -53,6 +54,7 @@ run-all-spec =
     sub-run-one
     part-run-one-start
     part-run-one-end
+    (λ c κs. search needs)
     (λ c κs. search needs)
     (λ c. search needs)
     (λ c. search needs)

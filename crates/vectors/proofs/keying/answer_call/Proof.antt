@@ -18,8 +18,5 @@ answer-call-spec =
     slice-aggregate-say-hex
     (λ c κs. search needs)
     (λ c. search needs)
-    (λ c. search needs)
-    (λ c κs. search needs)
-    (λ c. search needs)
     (λ c κs. search needs)
     (λ c. search needs))

@@ -5,10 +5,10 @@ use Rattle.vectors.proofs.line.answer_all.Statement.{statement}
 use Rattle.vectors.proofs.line.answer_all.Tie as tie
 
 abbrev Inv-loop : tie.InvT-loop
-Inv-loop text at₀ at = at ≤ length text
+Inv-loop text session₀ at₀ session at = at ≤ length text
 
 abbrev μ-loop : tie.MeasureT-loop
-μ-loop text at₀ at = length text - at
+μ-loop text session₀ at₀ session at = length text - at
 
 pub answer-all-spec : {M : Type 1} → statement M
 answer-all-spec =
@@ -16,6 +16,7 @@ answer-all-spec =
     (tie.spec
     Inv-loop
     μ-loop
+    (λ c κs. search needs)
     (λ c. search needs)
     (λ c κs. search needs)
     (λ c. search needs)

@@ -2,8 +2,8 @@ use mathlib.Core.Path.{_≡_}
 use Prim.Native.Nat.{_-_, _≤_}
 use lib.ListN.{length}
 use borrow.Author.Needs.{needs}
-use Rattle.calls.proofs.lower.mark.Statement.{statement}
-use Rattle.calls.proofs.lower.mark.Tie as tie
+use Rattle.calls.proofs.lent.mark.Statement.{statement}
+use Rattle.calls.proofs.lent.mark.Tie as tie
 
 abbrev Inv-loop : tie.InvT-loop
 Inv-loop lent₀ i₀ lent i = (i ≤ length lent₀) × (length lent ≡ length lent₀)

@@ -2,14 +2,14 @@ use Prim.Native.Nat.{_-_}
 use lib.ListN.{length-take}
 use native.Mathlib.Omega.{arith}
 use borrow.Author.Needs.{needs}
-use Rattle.calls.proofs.lower.answer.Statement.{statement}
-use Rattle.calls.proofs.lower.answer.Tie as tie
+use Rattle.calls.proofs.lent.lend.Statement.{statement}
+use Rattle.calls.proofs.lent.lend.Tie as tie
 
 slice-aggregate-make : tie.Need-slice-aggregate-make
 slice-aggregate-make c = simp length-take (omega arith)
 
-pub answer-spec : {M : Type 1} → statement M
-answer-spec =
+pub lend-spec : {M : Type 1} → statement M
+lend-spec =
     tie.close
     (tie.spec
     (λ c κs. search needs)

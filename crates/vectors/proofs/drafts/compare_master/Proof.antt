@@ -1,0 +1,30 @@
+use lib.ListN.{length-take}
+use native.Mathlib.Omega.{arith}
+use borrow.Author.Needs.{needs}
+use Rattle.vectors.proofs.drafts.compare_master.Statement.{statement}
+use Rattle.vectors.proofs.drafts.compare_master.Tie as tie
+
+slice-aggregate-extract : tie.Need-slice-aggregate-extract
+slice-aggregate-extract c = simp length-take (omega arith)
+
+slice-aggregate-extract-2 : tie.Need-slice-aggregate-extract-2
+slice-aggregate-extract-2 c = simp length-take (omega arith)
+
+pub compare-master-spec : {M : Type 1} → statement M
+compare-master-spec =
+    tie.close
+    (tie.spec
+    (λ c κs. search needs)
+    (λ c κs. search needs)
+    (λ c κs. search needs)
+    (λ c. search needs)
+    slice-aggregate-extract
+    (λ c. search needs)
+    slice-aggregate-extract-2
+    (λ c. search needs)
+    (λ c κs. search needs)
+    (λ c κs. search needs)
+    (λ c. search needs)
+    (λ c. search needs)
+    (λ c κs. search needs)
+    (λ c. search needs))
