@@ -1,0 +1,5 @@
+pub mod Readings
+pub mod Writing
+pub mod Shapes
+pub mod RoundTrips
+pub mod Journals

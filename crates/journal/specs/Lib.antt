@@ -1,0 +1,5 @@
+pub mod Format
+pub mod Write
+pub mod Calls
+pub mod Records
+pub mod RoundTrips
