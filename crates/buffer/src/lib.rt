@@ -1,7 +1,7 @@
-// Writing into a lent buffer, and the empty arrays that it starts from.
+// Reading and writing lent bytes, and the empty arrays that writing starts from.
 ghost use mathlib.Core.Path.{_≡_};
 ghost use Prim.Native.Nat.{min};
-ghost use lib.ListN.{length};
+ghost use lib.ListN.{length, getD};
 ghost use Rattle.buffer.specs.Buffer.{after, behind, zeros};
 
 // Copies src into dst from index at on, through the part of dst that starts there, and answers the
@@ -17,6 +17,13 @@ pub fn put(dst: &mut [u8], at: usize, src: &[u8]) -> usize
     }
     bytes::copy(src, &mut dst[at..]);
     at + src.len()
+}
+
+// The byte at an index, or 0 behind the end.
+pub fn byte_at(src: &[u8], i: usize) -> u8
+    ensures { λ r. ⌜ r ≡ getD (now (src .entry)) i 0 ⌝ }
+{
+    if i < src.len() { src[i] } else { 0 }
 }
 
 // Makes every byte of dst zero.

@@ -8,7 +8,7 @@ use hkdf::label::derive_secret;
 use hkdf::label::expand_label;
 use hkdf::mac::extract;
 use hkdf::mac::hmac;
-use sha2::oneshot::hash;
+use oneshot::hash;
 
 // suite 2, room 4, input
 pub(crate) fn make_hash(p: &[u8], lent: &mut [u8]) -> Reply {

@@ -11,7 +11,7 @@ ghost use Rattle.ffi.specs.Reported.{Reported};
 pub extern "C" fn bindcricket_hash(suite: u16, input: &[u8], out: &mut [u8]) -> u8
     ensures { λ r. ⌜ Reported (hashNumber suite (length (now (input .entry))) (length (now (out .entry)))) (hash suite (now (input .entry))) (now (out .entry)) r (now (out .exit)) ⌝ }
 {
-    sha2::oneshot::hash(suite, input, out).number()
+    oneshot::hash(suite, input, out).number()
 }
 
 // The asked bytes of HKDF-Expand to the front of out.

@@ -18,7 +18,7 @@ use Rattle.session.specs.declared.record.Session.{Session}
 use Rattle.session.specs.declared.record.Outcome.{Outcome}
 use Rattle.outputs.specs.declared.check.Verdict.{Verdict}
 use Rattle.outputs.specs.Verdict.{judged}
-use Rattle.session.specs.Call.Call.{Begin, Feed, Early, Handshake, Application, Complete, Update, Close, Keys, Finished, Check, Binder, Export}
+use Rattle.book.specs.Call.Call.{Begin, Feed, Early, Handshake, Application, Complete, Update, Close, Keys, Finished, Check, Binder, Export}
 use Rattle.session.specs.Promise.{Done, plain, wrote}
 use Rattle.history.specs.Histories.{freshSession, Demand3}
 use Rattle.history.proofs.Histories.{demand3}

@@ -5,17 +5,17 @@ use mathlib.Core.List.{List, [], _∷_}
 use mathlib.Core.Path.{_≡_, refl, ap, sym, _∙_}
 use lib.Dec.{eqb}
 use borrow.Author.Tests.{eqb-true}
-use Rattle.session.specs.Call.{Call}
-use Rattle.session.specs.Call.Call.{Begin, Feed, Early, Handshake, Application, Complete, Update, Close, Keys, Finished, Check, Binder, Export}
-use Rattle.session.specs.Book.{Book}
-use Rattle.session.specs.Held.{chainHeld, binderHeld, earlyHeld, handshakeHeld, applicationHeld, resumptionHeld}
-use Rattle.session.specs.Refusals.{number, next}
+use Rattle.book.specs.Call.{Call}
+use Rattle.book.specs.Call.Call.{Begin, Feed, Early, Handshake, Application, Complete, Update, Close, Keys, Finished, Check, Binder, Export}
+use Rattle.book.specs.Book.{Book}
+use Rattle.book.specs.Held.{chainHeld, binderHeld, earlyHeld, handshakeHeld, applicationHeld, resumptionHeld}
+use Rattle.book.specs.Refusals.{number, next}
 use Rattle.session.specs.Session.{place, sessionOf}
 use Rattle.session.specs.Promise.{Reply, reply}
-use Rattle.session.proofs.Accepted.{next-accepted}
+use Rattle.book.proofs.Accepted.{next-accepted}
 use Rattle.session.proofs.Fields.{chain-is, binder-key-is, client-early-is, early-exporter-is, client-handshake-is, server-handshake-is, client-application-is, server-application-is, exporter-is, resumption-is}
-use Rattle.session.proofs.Moves.{Moves, moves}
-use Rattle.session.proofs.Moves.Moves.{begins, feeds, runs, shakes, applies, completes, updates, closes, reads-keys, reads-finished, reads-check, reads-binder, reads-export}
+use Rattle.book.proofs.Moves.{Moves, moves}
+use Rattle.book.proofs.Moves.Moves.{begins, feeds, runs, shakes, applies, completes, updates, closes, reads-keys, reads-finished, reads-check, reads-binder, reads-export}
 use Rattle.history.specs.Places.{Place, lies, value, kindOf, sets, zeroes, heldNow, held}
 use Rattle.history.specs.Places.Place.{chain, binder-key, client-early, early-exporter, client-handshake, server-handshake, client-application, server-application, exporter, resumption}
 use Rattle.history.specs.Histories.{Event, calls, givens, kept, bookAfter, replies}

@@ -3,9 +3,9 @@ use mathlib.Core.Bool.{Bool}
 use mathlib.Core.List.{List}
 use mathlib.Core.Path.{_≡_, refl, ap, sym, _∙_}
 use Rattle.session.specs.declared.record.Session.{Session}
-use Rattle.session.specs.Call.{Call}
-use Rattle.session.specs.Book.{Book, blankAt, fresh}
-use Rattle.session.specs.Refusals.Reached.{start}
+use Rattle.book.specs.Call.{Call}
+use Rattle.book.specs.Book.{Book, blankAt, fresh}
+use Rattle.book.specs.Refusals.Reached.{start}
 use Rattle.session.specs.Session.{place, sessionOf}
 use Rattle.history.specs.Places.{Place, lies, value, held, keysPlace, exportPlace}
 use Rattle.history.specs.Histories.{Event, Run, calls, givens, kept, bookAfter, replies, freshSession, bookOf, heldAfter, Demand3}

@@ -3,8 +3,8 @@ use Prim.Native.Nat.{ℕ, zero, suc, _≤_}
 use mathlib.Core.Bool.{Bool, true, false, _||_}
 use mathlib.Core.Path.{_≡_, refl}
 use native.Mathlib.Omega.{arith}
-use Rattle.session.specs.Held.{earlyHeld, handshakeHeld}
-use Rattle.session.specs.Refusals.{keysHeld, exportHeld}
+use Rattle.book.specs.Held.{earlyHeld, handshakeHeld}
+use Rattle.book.specs.Refusals.{keysHeld, exportHeld}
 use Rattle.history.specs.Places.{keysPlace, exportPlace}
 use Rattle.history.proofs.Held.{heldAt}
 

@@ -7,13 +7,13 @@ use native.Mathlib.Omega.{arith}
 use lib.Dec.{eqb}
 use borrow.Author.Tests.{eqb-false}
 use Rattle.session.specs.declared.record.Session.{Session}
-use Rattle.session.specs.Call.{Call}
-use Rattle.session.specs.Book.{Book}
-use Rattle.session.specs.Refusals.{Reached, number, next}
-use Rattle.session.specs.Refusals.Reached.{more}
+use Rattle.book.specs.Call.{Call}
+use Rattle.book.specs.Book.{Book}
+use Rattle.book.specs.Refusals.{Reached, number, next}
+use Rattle.book.specs.Refusals.Reached.{more}
 use Rattle.session.specs.Session.{sessionOf}
 use Rattle.session.specs.Promise.{Reply, reply, Done}
-use Rattle.session.proofs.Accepted.{next-refused}
+use Rattle.book.proofs.Accepted.{next-refused}
 use Rattle.history.specs.Histories.{Event, Run, calls, givens, kept, allAccepted, bookAfter, replies}
 use Rattle.history.specs.Histories.Run.{ends, goes}
 

@@ -10,15 +10,16 @@ use Rattle.buffer.specs.Buffer.{zeros, placed}
 use Rattle.suite.specs.Suite.{known}
 use Rattle.schedule.specs.Schedule.{earlySecret}
 use Rattle.session.specs.declared.record.Session.{Session}
-use Rattle.session.specs.Call.{Call}
-use Rattle.session.specs.Call.Call.{Begin}
-use Rattle.session.specs.Book.{blankAt, fresh, note}
-use Rattle.session.specs.Refusals.{number}
+use Rattle.book.specs.Call.{Call}
+use Rattle.book.specs.Call.Call.{Begin}
+use Rattle.book.specs.Book.{blankAt, fresh, note}
+use Rattle.book.specs.Refusals.{number}
 use Rattle.session.specs.Session.{place}
 use Rattle.session.specs.Promise.{Reply}
-use Rattle.session.proofs.Accepted.{next-accepted}
+use Rattle.book.proofs.Accepted.{next-accepted}
 use Rattle.session.proofs.Fields.{chain-is}
-use Rattle.session.proofs.Moves.{begun-chain, begin-accepted}
+use Rattle.book.proofs.Moves.{begin-accepted}
+use Rattle.session.proofs.Steps.{begun-chain}
 use Rattle.history.specs.Places.{Place, lies, value, kindOf, sets, zeroes, held}
 use Rattle.history.specs.Places.Place.{chain}
 use Rattle.history.specs.Histories.{Event, Run, calls, givens, kept, allAccepted, bookAfter, replies, freshSession, bookOf}

@@ -5,9 +5,9 @@ use mathlib.Core.List.{List, [], _∷_}
 use mathlib.Core.Path.{_≡_}
 use lib.Dec.{eqb}
 use Rattle.session.specs.declared.record.Session.{Session}
-use Rattle.session.specs.Call.{Call}
-use Rattle.session.specs.Book.{Book, blankAt, fresh}
-use Rattle.session.specs.Refusals.{next, keysHeld, exportHeld}
+use Rattle.book.specs.Call.{Call}
+use Rattle.book.specs.Book.{Book, blankAt, fresh}
+use Rattle.book.specs.Refusals.{next, keysHeld, exportHeld}
 use Rattle.session.specs.Session.{place, sessionOf}
 use Rattle.session.specs.Promise.{Reply, reply, Done}
 use Rattle.history.specs.Places.{Place, lies, value, held, keysPlace, exportPlace}

@@ -6,10 +6,10 @@ use lib.Dec.{eqb}
 use Rattle.schedule.specs.Labels.{binderOf}
 use Rattle.schedule.specs.Labels as Labels
 use Rattle.session.specs.declared.record.Session.{Session}
-use Rattle.session.specs.Call.{Call}
-use Rattle.session.specs.Call.Call.{Begin, Feed, Early, Handshake, Application, Complete, Update, Close, Keys, Finished, Check, Binder, Export}
-use Rattle.session.specs.On.{never, onBegin, onUpdate}
-use Rattle.session.specs.Book.{Book}
+use Rattle.book.specs.Call.{Call}
+use Rattle.book.specs.Call.Call.{Begin, Feed, Early, Handshake, Application, Complete, Update, Close, Keys, Finished, Check, Binder, Export}
+use Rattle.book.specs.On.{never, onBegin, onUpdate}
+use Rattle.book.specs.Book.{Book}
 use Rattle.session.specs.Values.{secretOf, clientApplication, serverApplication}
 use Rattle.session.specs.Session.{chainAt}
 

@@ -1,4 +1,2 @@
-// Demand 3: what every list of calls from a fresh session gives (specs/Histories, proofs/Histories), and a function that
-// performs any list.
-pub mod encoded;
-pub mod perform;
+// Demand 3: what every list of calls from a fresh session gives. The claim is specs/Histories, its proof proofs/Histories;
+// there is no code.

@@ -14,14 +14,15 @@ use Rattle.refusal.specs.declared.Answer.{Answer}
 use Rattle.refusal.specs.Refusal.{number, count}
 use Rattle.refusal.specs.Answered.{Answered}
 use Rattle.refusal.proofs.Laws.{passed, or-false, and-true, at-most, refused, done}
-use Rattle.suite.specs.Suite.{known, hashLen, blockLen}
+use Rattle.suite.specs.Suite.{known, hashLen, blockLen, maxLabel}
 use Rattle.sha2.specs.Hash.{hash, maxInput}
 use Rattle.sha2.proofs.Whole.{length-hash}
-use Rattle.hkdf.specs.Rfc2104.{hmac}
+use Rattle.hmac.specs.Rfc2104.{hmac}
 use Rattle.hkdf.specs.Rfc5869.{extract, expand, blocksFor, Ts}
 use Rattle.hkdf.specs.Rfc8446.{expandLabel, deriveSecret, hkdfLabel, tls13}
-use Rattle.hkdf.specs.Refusals.{macNumber, expandNumber, expandLabelNumber, deriveSecretNumber, askable, labelled, maxMessage, maxInfo, maxLabel, maxContext, maxMessages}
-use Rattle.hkdf.proofs.Values.{length-hmac, length-expand}
+use Rattle.hkdf.specs.Refusals.{macNumber, expandNumber, expandLabelNumber, deriveSecretNumber, askable, labelled, maxMessage, maxInfo, maxContext, maxMessages}
+use Rattle.hmac.proofs.Prepared.{length-hmac}
+use Rattle.hkdf.proofs.Values.{length-expand}
 use Rattle.hkdf.proofs.Labels.{length-label, info-is}
 
 -- a refusal, and an answer that is done, for a decision n and the bytes w to write

@@ -11,7 +11,7 @@ use Rattle.buffer.specs.Buffer.{zeros, overwrite, fronted, placed, after}
 use Rattle.buffer.proofs.Laws.{after-fits, length-placed, placed-is, length-zeros}
 use Rattle.suite.specs.Suite.{hashLen}
 use Rattle.suite.proofs.Laws.{bounded}
-use Rattle.hkdf.specs.Rfc2104.{hmac}
+use Rattle.hmac.specs.Rfc2104.{hmac}
 use Rattle.hkdf.specs.Rfc5869.{blocksFor, T, Ts, expand}
 use Rattle.hkdf.proofs.Values.{some-hash, length-T, length-Ts}
 

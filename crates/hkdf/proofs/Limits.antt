@@ -7,10 +7,10 @@ use native.Mathlib.Omega.{arith}
 use lib.ListN.{length}
 use lib.Dec.{eqb, leb, ltb}
 use borrow.Author.Tests.{le-leb, lt-leb, le-ltb, eq-eqb}
-use Rattle.suite.specs.Suite.{known, hashLen, blockLen}
+use Rattle.suite.specs.Suite.{known, hashLen, blockLen, maxLabel}
 use Rattle.hkdf.specs.Rfc5869.{blocksFor}
 use Rattle.hkdf.specs.Rfc8446.{tls13, hkdfLabel}
-use Rattle.hkdf.specs.Refusals.{expandNumber, expandLabelNumber, askable, labelled, maxInfo, maxLabel, maxContext}
+use Rattle.hkdf.specs.Refusals.{expandNumber, expandLabelNumber, askable, labelled, maxInfo, maxContext}
 use Rattle.hkdf.proofs.Labels.{length-label}
 
 pub key-label : hkdfLabel tls13 16 (0x6b ∷ 0x65 ∷ 0x79 ∷ []) []

@@ -9,13 +9,8 @@ use lib.Seq.{length-take-le}
 use Rattle.suite.specs.declared.Suite.{Suite}
 use Rattle.suite.specs.Suite.{hashLen, suiteOf}
 use Rattle.suite.proofs.Laws.{every}
-use Rattle.sha2.proofs.Whole.{length-hash}
-use Rattle.hkdf.specs.Rfc2104.{hmac}
+use Rattle.hmac.proofs.Prepared.{length-hmac}
 use Rattle.hkdf.specs.Rfc5869.{blocksFor, T, Ts, expand}
-
-pub length-hmac : (suite : ℕ) (key text : List ℕ) → length (hmac suite key text) ≡ hashLen suite
-unfolding hmac
-length-hmac suite key text = length-hash suite _
 
 -- a hash has some bytes
 record Some (s : Suite) : Type 0 where

@@ -2,7 +2,7 @@
 use Prim.Native.Nat.{ℕ, _*_}
 use mathlib.Core.Bool.{Bool, cond, not, _&&_, _||_}
 use lib.Dec.{eqb, leb, ltb}
-use Rattle.suite.specs.Suite.{known, hashLen, blockLen}
+use Rattle.suite.specs.Suite.{known, hashLen, blockLen, maxLabel}
 
 -- limits
 abbrev pub maxMessage : ℕ
@@ -10,9 +10,6 @@ maxMessage = 1048576
 
 abbrev pub maxInfo : ℕ
 maxInfo = 1024
-
-abbrev pub maxLabel : ℕ
-maxLabel = 249
 
 abbrev pub maxContext : ℕ
 maxContext = 255

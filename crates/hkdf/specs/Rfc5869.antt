@@ -3,7 +3,7 @@ use Prim.Native.Nat.{ℕ, zero, suc, _+_, _-_, _/_}
 use mathlib.Core.List.{List, [], _∷_, _++_}
 use lib.ListN.{take}
 use Rattle.suite.specs.Suite.{hashLen}
-use Rattle.hkdf.specs.Rfc2104.{hmac}
+use Rattle.hmac.specs.Rfc2104.{hmac}
 
 -- section 2.2
 unfoldable pub extract : ℕ → List ℕ → List ℕ → List ℕ

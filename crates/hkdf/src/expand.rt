@@ -1,7 +1,7 @@
 // HKDF-Expand.
-use super::keyed::mac;
-use super::keyed::prepare;
 use super::numbers::expand_number;
+use hmac::mac;
+use hmac::prepare;
 use refusal::Answer;
 use suite::Suite;
 ghost use mathlib.Core.Path.{_≡_};

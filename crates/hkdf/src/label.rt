@@ -2,8 +2,8 @@
 use super::expand::fill;
 use super::numbers::derive_secret_number;
 use super::numbers::expand_label_number;
+use oneshot::digest;
 use refusal::Answer;
-use sha2::oneshot::digest;
 use suite::Suite;
 ghost use mathlib.Core.Path.{_≡_};
 ghost use Prim.Native.Nat.{_≤_, _<_};

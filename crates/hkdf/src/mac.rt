@@ -1,14 +1,17 @@
 // HMAC, and HKDF-Extract, which is HMAC with the salt as its key.
-use super::keyed::mac;
-use super::keyed::prepare;
 use super::numbers::mac_number;
+use hmac::mac;
+use hmac::prepare;
 use refusal::Answer;
 use suite::Suite;
 ghost use lib.ListN.{length};
 ghost use Rattle.refusal.specs.Answered.{Answered};
-ghost use Rattle.hkdf.specs.Rfc2104.{hmac};
+ghost use Rattle.hmac.specs.Rfc2104.{hmac};
 ghost use Rattle.hkdf.specs.Rfc5869.{extract};
 ghost use Rattle.hkdf.specs.Refusals.{macNumber};
+
+// The longest message of HMAC and input of Extract.
+pub const MAX_MESSAGE: usize = 1048576;
 
 // Writes the HMAC of a message under a key to the front of out: H bytes. Refusals 2, 4, 9 and 11.
 pub fn hmac(suite: u16, key: &[u8], message: &[u8], out: &mut [u8]) -> Answer

@@ -1,21 +1,16 @@
 // The refusals of the lower calls, by sizes alone.
-use refusal::both;
-use refusal::either;
+use super::mac::MAX_MESSAGE;
+use oneshot::MAX_INPUT;
 use refusal::refuse_if;
+use suite::MAX_LABEL;
 use suite::Suite;
 ghost use mathlib.Core.Path.{_≡_};
 ghost use Rattle.hkdf.specs.Refusals.{macNumber, expandNumber, expandLabelNumber, deriveSecretNumber, askable, labelled};
 
-// The longest message of HMAC and input of Extract, info of Expand, label, context and messages.
-pub(crate) const MAX_MESSAGE: usize = 1048576;
-
+// The longest info of Expand, and context of Expand-Label.
 const MAX_INFO: usize = 1024;
 
-const MAX_LABEL: usize = 249;
-
 const MAX_CONTEXT: usize = 255;
-
-const MAX_MESSAGES: usize = 2097152;
 
 pub(crate) fn mac_number(suite: u16, key: usize, message: usize, room: usize) -> u8
     ensures { λ r. ⌜ r ≡ macNumber suite key message room ⌝ }
@@ -33,7 +28,7 @@ fn can_ask(suite: u16, asked: usize) -> bool
     ensures { λ r. ⌜ r ≡ askable suite asked ⌝ }
 {
     let h = Suite::hash_len(suite);
-    both(1 <= asked, asked <= 255 * h)
+    (1 <= asked) & (asked <= 255 * h)
 }
 
 pub(crate) fn expand_number(suite: u16, secret: usize, info: usize, asked: usize, room: usize) -> u8
@@ -42,9 +37,9 @@ pub(crate) fn expand_number(suite: u16, secret: usize, info: usize, asked: usize
     let known = Suite::is_known(suite);
     let h = Suite::hash_len(suite);
     let b = Suite::block_len(suite);
-    let sized = both(h <= secret, secret <= b);
+    let sized = (h <= secret) & (secret <= b);
     let fits = can_ask(suite, asked);
-    let long = either(MAX_INFO < info, !fits);
+    let long = (MAX_INFO < info) | !fits;
     let output = refuse_if(room < asked, 11, 0);
     refuse_if(!known, 2, refuse_if(!sized, 4, refuse_if(long, 10, output)))
 }
@@ -52,7 +47,7 @@ pub(crate) fn expand_number(suite: u16, secret: usize, info: usize, asked: usize
 fn can_label(label: usize) -> bool
     ensures { λ r. ⌜ r ≡ labelled label ⌝ }
 {
-    both(1 <= label, label <= MAX_LABEL)
+    (1 <= label) & (label <= MAX_LABEL)
 }
 
 pub(crate) fn expand_label_number(
@@ -69,7 +64,7 @@ pub(crate) fn expand_label_number(
     let h = Suite::hash_len(suite);
     let named = can_label(label);
     let fits = can_ask(suite, asked);
-    let long = either(!named, either(MAX_CONTEXT < context, !fits));
+    let long = !named | ((MAX_CONTEXT < context) | !fits);
     let output = refuse_if(room < asked, 11, 0);
     refuse_if(
         !known,
@@ -92,6 +87,6 @@ pub(crate) fn derive_secret_number(
     let named = can_label(label);
     let output = refuse_if(room < h, 11, 0);
     let range = refuse_if(!named, 10, output);
-    let input = refuse_if(MAX_MESSAGES < messages, 9, range);
+    let input = refuse_if(MAX_INPUT < messages, 9, range);
     refuse_if(!known, 2, refuse_if(!(secret == h), 4, input))
 }

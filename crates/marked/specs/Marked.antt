@@ -10,9 +10,9 @@ use Rattle.fips180.specs.Padding.{padded, blocks}
 use Rattle.hkdf.specs.Rfc5869.{blocksFor}
 use Rattle.hkdf.specs.Rfc8446.{tls13, hkdfLabel}
 use Rattle.hkdf.specs.Refusals.{expandNumber, expandLabelNumber}
-use Rattle.session.specs.Call.Call.{Handshake}
-use Rattle.session.specs.Book.{Book, fresh, early, blankAt, stageOf}
-use Rattle.session.specs.Refusals.{number, Reached}
+use Rattle.book.specs.Call.Call.{Handshake}
+use Rattle.book.specs.Book.{Book, fresh, early, blankAt, stageOf}
+use Rattle.book.specs.Refusals.{number, Reached}
 
 -- "key", "iv", "finished", "derived"
 abbrev pub key : List ℕ

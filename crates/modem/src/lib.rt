@@ -2,7 +2,7 @@
 use refusal::Answer;
 use session::record::Session;
 ghost use mathlib.Core.Path.{_≡_};
-ghost use Rattle.session.specs.Call.{Call};
+ghost use Rattle.book.specs.Call.{Call};
 ghost use Rattle.session.specs.Promise.{Done, plain};
 
 // Feed, on the session behind s.

@@ -15,14 +15,14 @@ use Rattle.sha2.specs.Hash.{hash, maxInput}
 use Rattle.schedule.specs.Schedule.{within, trafficKeys, verifyData}
 use Rattle.schedule.proofs.Laws.{length-trafficKeys, length-verifyData}
 use Rattle.session.specs.declared.record.Session.{Session}
-use Rattle.session.specs.Call.{Call, lent}
-use Rattle.session.specs.Call.Call.{Keys, Finished, Check, Binder}
-use Rattle.session.specs.Book.{Book, note}
-use Rattle.session.specs.Refusals.{number, Reached, keysNumber, finishedNumber, checkNumber, binderNumber}
+use Rattle.book.specs.Call.{Call, lent}
+use Rattle.book.specs.Call.Call.{Keys, Finished, Check, Binder}
+use Rattle.book.specs.Book.{Book, note}
+use Rattle.book.specs.Refusals.{number, Reached, keysNumber, finishedNumber, checkNumber, binderNumber}
 use Rattle.session.specs.Values.{written, same, verdict}
 use Rattle.session.specs.Session.{sessionOf}
 use Rattle.session.specs.Promise.{Done, wrote}
-use Rattle.session.proofs.AcceptedReads.{keys-small, keys-zero, finished-small, finished-zero, check-small, binder-small, binder-zero}
+use Rattle.book.proofs.AcceptedReads.{keys-small, keys-zero, finished-small, finished-zero, check-small, binder-small, binder-zero}
 use Rattle.session.proofs.Calls.{refused, refused-by, accepted}
 use Rattle.outputs.specs.declared.check.Verdict.{Verdict}
 use Rattle.outputs.specs.Verdict as Verdict

@@ -10,7 +10,7 @@ use lib.Dec.{eqb}
 use lib.ListN.{length, getD, drop, drop-of-length-le}
 use lib.Seq.{drop-cons}
 use Rattle.session.specs.Values.{same}
-use Rattle.session.proofs.Bytes.{or-zero, xor-zero, and-assoc, and-yes}
+use Rattle.book.proofs.Bytes.{or-zero, xor-zero, and-assoc, and-yes}
 
 and-no : (x : Bool) → false ≡ (x && false)
 and-no true = refl

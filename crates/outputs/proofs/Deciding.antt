@@ -4,9 +4,9 @@ use mathlib.Core.List.{List}
 use mathlib.Core.Path.{_≡_, ap, _∙_}
 use lib.ListN.{length}
 use Rattle.session.specs.declared.record.Session.{Session}
-use Rattle.session.specs.Call.Call.{Keys, Finished, Check, Binder, Export}
-use Rattle.session.specs.Book.{Book}
-use Rattle.session.specs.Refusals.{number, keysNumber, finishedNumber, checkNumber, binderNumber, exportNumber, Reached}
+use Rattle.book.specs.Call.Call.{Keys, Finished, Check, Binder, Export}
+use Rattle.book.specs.Book.{Book}
+use Rattle.book.specs.Refusals.{number, keysNumber, finishedNumber, checkNumber, binderNumber, exportNumber, Reached}
 use Rattle.session.specs.Session.{sessionOf}
 
 module _ (s : Session) {n : ℕ} where

@@ -12,23 +12,23 @@ use Rattle.buffer.specs.Buffer.{fronted}
 use Rattle.refusal.specs.declared.Answer.{Answer}
 use Rattle.refusal.specs.Refusal as Refusal
 use Rattle.refusal.specs.Answered.{Answered}
-use Rattle.suite.specs.Suite.{known, hashLen}
+use Rattle.suite.specs.Suite.{known, hashLen, maxLabel}
 use Rattle.suite.proofs.Laws.{bounded}
 use Rattle.sha2.specs.Hash.{maxInput}
-use Rattle.hkdf.specs.Refusals.{expandLabelNumber, maxLabel}
+use Rattle.hkdf.specs.Refusals.{expandLabelNumber}
 use Rattle.hkdf.proofs.Limits.{label-allowed}
 use Rattle.schedule.specs.Schedule.{within, tlsExporter}
 use Rattle.schedule.proofs.Laws.{length-tlsExporter}
 use Rattle.session.specs.declared.record.Session.{Session}
-use Rattle.session.specs.Call.{lent}
-use Rattle.session.specs.Call.Call.{Export}
-use Rattle.session.specs.Book.{Book, note}
-use Rattle.session.specs.Refusals.{number, Reached, lengthInForce, exportHeld, exportNumber}
+use Rattle.book.specs.Call.{lent}
+use Rattle.book.specs.Call.Call.{Export}
+use Rattle.book.specs.Book.{Book, note}
+use Rattle.book.specs.Refusals.{number, Reached, lengthInForce, exportHeld, exportNumber}
 use Rattle.session.specs.Values.{verdict}
 use Rattle.session.specs.Session.{sessionOf}
 use Rattle.session.specs.Promise.{Done, wrote}
-use Rattle.session.proofs.AcceptedReads.{ExportTaken, export-small, export-zero}
-use Rattle.session.proofs.Books.{good}
+use Rattle.book.proofs.AcceptedReads.{ExportTaken, export-small, export-zero}
+use Rattle.book.proofs.Books.{good}
 use Rattle.session.proofs.Fields.{suite-is, point-is}
 use Rattle.session.proofs.Calls.{refused-by, accepted}
 use Rattle.outputs.specs.Places.{exporterPlace}

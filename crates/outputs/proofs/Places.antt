@@ -10,25 +10,24 @@ use borrow.Author.Tests.{eqb-true, ne-eqb}
 use Rattle.refusal.proofs.Laws.{and-true, or-true}
 use Rattle.buffer.specs.Buffer.{placed}
 use Rattle.buffer.proofs.Laws.{take-placed}
-use Rattle.suite.specs.Suite.{hashLen}
+use Rattle.suite.specs.Suite.{hashLen, maxLabel}
 use Rattle.sha2.specs.Hash.{hash, maxInput}
 use Rattle.sha2.proofs.Whole.{length-hash}
-use Rattle.hkdf.specs.Refusals.{maxLabel}
 use Rattle.schedule.specs.Labels.{binderOf}
 use Rattle.schedule.specs.Labels.Secret.{client-early, early-exporter, client-handshake, server-handshake, exporter}
 use Rattle.schedule.specs.Schedule.{within, trafficKeys, verifyData, tlsExporter}
 use Rattle.schedule.proofs.Laws.{within-limit}
 use Rattle.session.specs.declared.record.Session.{Session}
-use Rattle.session.specs.Call.Call.{Keys, Finished, Check, Binder, Export}
-use Rattle.session.specs.Messages.{transcript}
-use Rattle.session.specs.Book.{Book, stageOf}
-use Rattle.session.specs.Held.{earlyHeld, handshakeHeld, applicationHeld}
-use Rattle.session.specs.Refusals.{number, Reached, lengthInForce}
+use Rattle.book.specs.Call.Call.{Keys, Finished, Check, Binder, Export}
+use Rattle.book.specs.Messages.{transcript}
+use Rattle.book.specs.Book.{Book, stageOf}
+use Rattle.book.specs.Held.{earlyHeld, handshakeHeld, applicationHeld}
+use Rattle.book.specs.Refusals.{number, Reached, lengthInForce}
 use Rattle.session.specs.Values.{secretOf, clientApplication, serverApplication, trafficSecret, transcriptHash, finishedValue, binderValue, exportedValue, written, same, verdict}
 use Rattle.session.specs.Session.{place, sessionOf}
-use Rattle.session.proofs.AcceptedReads.{CheckTaken, Finishing, keys-zero, check-zero, finished-zero, binder-zero, export-zero}
-use Rattle.session.proofs.AcceptedReads.Finishing.{of-client, of-server}
-use Rattle.session.proofs.Books.{good}
+use Rattle.book.proofs.AcceptedReads.{CheckTaken, Finishing, keys-zero, check-zero, finished-zero, binder-zero, export-zero}
+use Rattle.book.proofs.AcceptedReads.Finishing.{of-client, of-server}
+use Rattle.book.proofs.Books.{good}
 use Rattle.session.proofs.Fields.{suite-is, binder-key-at}
 use Rattle.session.proofs.Secrets.{length-secretOf, length-clientApplication, length-serverApplication, hash-of}
 use Rattle.outputs.specs.Places.{namedPlace, basePlace, exporterPlace, finishedFrom}

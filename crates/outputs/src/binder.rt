@@ -1,11 +1,11 @@
 // Binder: the PSK binder over a cut ClientHello.
-use super::numbers::binder_number;
 use super::values::write_value;
+use read_numbers::binder_number;
 use refusal::Answer;
 use schedule::traffic::messages_hash;
 use schedule::traffic::verify_data;
 use session::record::Session;
-ghost use Rattle.session.specs.Call.{Call};
+ghost use Rattle.book.specs.Call.{Call};
 ghost use Rattle.session.specs.Promise.{Done, wrote};
 
 // At Early, with a PSK; over the bytes of hello alone, whose length field is not judged. Refusals 1, 3, 7, 8 and 11.

@@ -1,6 +1,6 @@
 // Check: whether received bytes are the Finished value of a side.
-use super::numbers::check_number;
 use super::values::finished_value;
+use read_numbers::check_number;
 use refusal::Answer;
 use refusal::Refusal;
 use session::record::Session;
@@ -8,7 +8,7 @@ use suite::Suite;
 ghost use mathlib.Core.Path.{_≡_};
 ghost use mathlib.Core.Bool.{false};
 ghost use Prim.Native.Nat.{min};
-ghost use Rattle.session.specs.Call.{Call};
+ghost use Rattle.book.specs.Call.{Call};
 ghost use Rattle.session.specs.Values.{same};
 ghost use Rattle.session.specs.Promise.{Done};
 ghost use Rattle.outputs.specs.Verdict.{number, yes, judged};

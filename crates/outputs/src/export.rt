@@ -1,11 +1,11 @@
 // Export: bytes for other uses (RFC 8446, section 7.5).
-use super::numbers::export_number;
-use super::numbers::length_in_force;
+use read_numbers::export_number;
+use read_numbers::length_in_force;
 use refusal::Answer;
 use schedule::exporter::tls_exporter;
 use session::record::Session;
 ghost use mathlib.Core.Path.{_≡_};
-ghost use Rattle.session.specs.Call.{Call};
+ghost use Rattle.book.specs.Call.{Call};
 ghost use Rattle.session.specs.Promise.{Done, wrote};
 ghost use Rattle.outputs.specs.Places.{exporterPlace};
 

@@ -1,10 +1,10 @@
 // Finished: the Finished value of a side.
-use super::numbers::finished_number;
 use super::values::finished_value;
 use super::values::write_value;
+use read_numbers::finished_number;
 use refusal::Answer;
 use session::record::Session;
-ghost use Rattle.session.specs.Call.{Call};
+ghost use Rattle.book.specs.Call.{Call};
 ghost use Rattle.session.specs.Promise.{Done, wrote};
 
 // Side 1 is the client, 2 the server; before that side's Finished is fed. Refusals 1, 2 and 11.

@@ -1,6 +1,6 @@
 // Keys: the traffic key and IV of a secret that is held.
-use super::numbers::keys_number;
 use super::values::write_part;
+use read_numbers::keys_number;
 use refusal::Answer;
 use schedule::traffic::traffic_keys;
 use session::record::Session;
@@ -11,7 +11,7 @@ ghost use lib.ListN.{length, take};
 ghost use Rattle.buffer.specs.Buffer.{fronted};
 ghost use Rattle.suite.specs.Suite.{hashLen, keyLen, ivLen};
 ghost use Rattle.schedule.specs.Schedule.{trafficKeys};
-ghost use Rattle.session.specs.Call.{Call};
+ghost use Rattle.book.specs.Call.{Call};
 ghost use Rattle.session.specs.Promise.{Done, wrote};
 ghost use Rattle.outputs.specs.Places.{namedPlace};
 

@@ -4,5 +4,4 @@ pub mod check;
 pub mod export;
 pub mod finished;
 pub mod keys;
-mod numbers;
 mod values;

@@ -1,6 +1,6 @@
 // Refusals, and what a call answers (document 01, "Refusal numbers").
 ghost use mathlib.Core.Path.{_≡_};
-ghost use mathlib.Core.Bool.{cond, _&&_, _||_};
+ghost use mathlib.Core.Bool.{cond};
 ghost use lib.Dec.{eqb};
 ghost use Prim.Native.Nat.{min};
 ghost use Rattle.refusal.specs.Refusal.{numberOf, number, count};
@@ -95,21 +95,9 @@ impl Answer {
     }
 }
 
-// The words of a decision, as functions: a decision written with them reads as its definition does.
+// A step of a decision: one written with it reads as its definition does.
 pub fn refuse_if(test: bool, n: u8, rest: u8) -> u8
     ensures { λ r. ⌜ r ≡ cond test n rest ⌝ }
 {
     if test { n } else { rest }
-}
-
-pub fn both(a: bool, b: bool) -> bool
-    ensures { λ r. ⌜ r ≡ a && b ⌝ }
-{
-    if a { b } else { false }
-}
-
-pub fn either(a: bool, b: bool) -> bool
-    ensures { λ r. ⌜ r ≡ a || b ⌝ }
-{
-    if a { true } else { b }
 }

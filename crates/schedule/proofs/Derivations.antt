@@ -13,19 +13,21 @@ use Rattle.buffer.proofs.Laws.{length-zeros, take-zeros, take-placed, take-leas
 use Rattle.refusal.specs.declared.Answer.{Answer}
 use Rattle.refusal.specs.Answered.{Answered}
 use Rattle.suite.specs.declared.Suite.{Suite}
-use Rattle.suite.specs.Suite.{suiteOf, hashLen, keyLen, ivLen}
+use Rattle.suite.specs.Suite.{suiteOf, hashLen, keyLen, ivLen, maxLabel}
 use Rattle.suite.proofs.Laws.{every, bounded}
 use Rattle.sha2.specs.Hash.{hash, maxInput}
 use Rattle.sha2.proofs.Whole.{length-hash}
-use Rattle.hkdf.specs.declared.keyed.Keyed.{Keyed}
-use Rattle.hkdf.specs.Refusals.{expandLabelNumber, maxMessage, maxLabel}
-use Rattle.hkdf.specs.Rfc2104.{hmac}
+use Rattle.hmac.specs.declared.Keyed.{Keyed}
+use Rattle.hkdf.specs.Refusals.{expandLabelNumber, maxMessage}
+use Rattle.hmac.specs.Rfc2104.{hmac}
 use Rattle.hkdf.specs.Rfc5869.{extract}
 use Rattle.hkdf.specs.Rfc8446.{expandLabel, deriveSecret}
-use Rattle.hkdf.specs.Keyed.{keyedOf, macOf, labelBlock}
+use Rattle.hmac.specs.Keyed.{keyedOf, macOf}
+use Rattle.keyed.specs.Blocks.{labelBlock}
 use Rattle.hkdf.proofs.Values.{some-hash}
 use Rattle.hkdf.proofs.Calls.{length-expandLabel, length-deriveSecret}
-use Rattle.hkdf.proofs.Prepared.{label-block-is, mac-under, derive-by-hash}
+use Rattle.hmac.proofs.Prepared.{mac-under}
+use Rattle.keyed.proofs.Prepared.{label-block-is, derive-by-hash}
 use Rattle.schedule.specs.Labels.{Secret, label, binderOf, derived, trafficUpd, key, iv, finished, exporting}
 use Rattle.schedule.specs.Labels.Secret.{binder-external, binder-resumption, client-early, early-exporter, client-handshake, server-handshake, client-application, server-application, exporter, resumption}
 use Rattle.schedule.specs.Schedule.{orZeros, earlySecret, nextSecret, fromHash, nextTrafficSecret, writeKey, writeIv, verifyData, tlsExporter}

@@ -7,9 +7,9 @@ use lib.Seq.{take-all}
 use Rattle.suite.specs.Suite.{hashLen, keyLen, ivLen}
 use Rattle.sha2.specs.Hash.{hash}
 use Rattle.hkdf.specs.Rfc8446.{deriveSecret}
-use Rattle.hkdf.proofs.Values.{length-hmac}
+use Rattle.hmac.proofs.Prepared.{length-hmac}
 use Rattle.hkdf.proofs.Calls.{length-expandLabel}
-use Rattle.hkdf.proofs.Prepared.{derive-by-hash, length-extract}
+use Rattle.keyed.proofs.Prepared.{derive-by-hash, length-extract}
 use Rattle.schedule.specs.Labels.{Secret, label, trafficUpd, key, iv, exporting}
 use Rattle.schedule.specs.Schedule.{within, earlySecret, nextSecret, handshakeSecret, masterSecret, fromHash, nextTrafficSecret, updated, writeKey, writeIv, trafficKeys, verifyData, tlsExporter}
 

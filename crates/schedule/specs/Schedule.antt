@@ -7,7 +7,7 @@ use lib.Dec.{eqb}
 use Rattle.buffer.specs.Buffer.{zeros}
 use Rattle.suite.specs.Suite.{hashLen, keyLen, ivLen}
 use Rattle.sha2.specs.Hash.{hash}
-use Rattle.hkdf.specs.Rfc2104.{hmac}
+use Rattle.hmac.specs.Rfc2104.{hmac}
 use Rattle.hkdf.specs.Rfc5869.{extract}
 use Rattle.hkdf.specs.Rfc8446.{expandLabel, deriveSecret}
 use Rattle.schedule.specs.Labels.{Secret, label, derived, trafficUpd, key, iv, finished, exporting}

@@ -1,15 +1,16 @@
 // What every derivation shares: a secret prepared as a key, and Derive-Secret given the hash of the messages.
-use hkdf::keyed::Keyed;
-use hkdf::keyed::label_block;
-use hkdf::keyed::prepare;
-use sha2::oneshot::digest;
+use hmac::Keyed;
+use hmac::prepare;
+use keyed::label_block;
+use oneshot::digest;
 use suite::Suite;
 ghost use mathlib.Core.Path.{_≡_};
 ghost use mathlib.Core.List.{[]};
 ghost use lib.ListN.{take};
 ghost use Rattle.suite.specs.Suite.{hashLen};
 ghost use Rattle.sha2.specs.Hash.{hash};
-ghost use Rattle.hkdf.specs.Keyed.{keyedOf, labelBlock};
+ghost use Rattle.hmac.specs.Keyed.{keyedOf};
+ghost use Rattle.keyed.specs.Blocks.{labelBlock};
 
 pub(crate) fn ready(suite: u16, secret: [u8; 48]) -> Keyed
     ensures { λ r. ⌜ r ≡ keyedOf suite (take (hashLen suite) secret) ⌝ }

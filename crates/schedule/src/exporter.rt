@@ -1,17 +1,16 @@
 // TLS-Exporter (RFC 8446, section 7.5).
 use super::derive::over_nothing;
 use hkdf::label::expand_label;
+use oneshot::digest;
 use refusal::Answer;
-use sha2::oneshot::digest;
+use suite::MAX_LABEL;
 use suite::Suite;
 ghost use lib.ListN.{length, take};
 ghost use Rattle.refusal.specs.Answered.{Answered};
-ghost use Rattle.suite.specs.Suite.{hashLen};
+ghost use Rattle.suite.specs.Suite.{hashLen, maxLabel};
 ghost use Rattle.sha2.specs.Hash.{maxInput};
-ghost use Rattle.hkdf.specs.Refusals.{expandLabelNumber, maxLabel};
+ghost use Rattle.hkdf.specs.Refusals.{expandLabelNumber};
 ghost use Rattle.schedule.specs.Schedule.{within, tlsExporter};
-
-const MAX_LABEL: usize = 249;
 
 // Writes the asked bytes that a label and a context export under an exporter secret to the front of out. Refusals 2, 10 and
 // 11. Of a label or a context over its limit, which every call refuses, the bytes up to it are read.

@@ -2,7 +2,7 @@
 use super::derive::derive;
 use super::derive::over_nothing;
 use super::derive::ready;
-use hkdf::keyed::extract_value;
+use keyed::extract_value;
 use suite::Suite;
 ghost use mathlib.Core.Path.{_≡_};
 ghost use mathlib.Core.List.{[]};

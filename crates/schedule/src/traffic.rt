@@ -1,8 +1,8 @@
 // What is made of a traffic secret: the next one (RFC 8446, section 7.2), key and IV (7.3), verify_data (4.4.4).
 use super::derive::ready;
-use hkdf::keyed::label_block;
-use hkdf::keyed::mac;
-use sha2::oneshot::digest;
+use hmac::mac;
+use keyed::label_block;
+use oneshot::digest;
 use suite::Suite;
 ghost use mathlib.Core.Path.{_≡_};
 ghost use lib.ListN.{take};

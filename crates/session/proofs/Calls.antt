@@ -13,13 +13,13 @@ use Rattle.buffer.specs.Buffer.{fronted}
 use Rattle.refusal.specs.declared.Answer.{Answer}
 use Rattle.refusal.specs.Refusal as Refusal
 use Rattle.session.specs.declared.record.Session.{Session}
-use Rattle.session.specs.Call.{Call, lent}
-use Rattle.session.specs.Book.{Book, note}
-use Rattle.session.specs.Refusals.{number, next, Reached}
+use Rattle.book.specs.Call.{Call, lent}
+use Rattle.book.specs.Book.{Book, note}
+use Rattle.book.specs.Refusals.{number, next, Reached}
 use Rattle.session.specs.Values.{written, verdict}
 use Rattle.session.specs.Session.{sessionOf}
 use Rattle.session.specs.Promise.{Reply, reply, Done, plain}
-use Rattle.session.proofs.Accepted.{next-refused, next-accepted}
+use Rattle.book.proofs.Accepted.{next-refused, next-accepted}
 
 -- the reply of the book, when it refuses and when it accepts
 reply-if : Book → Call → Bool → Reply

@@ -7,11 +7,11 @@ use lib.Dec.{eqb}
 use lib.ListN.{length}
 use borrow.Author.Tests.{eq-eqb, ne-eqb}
 use Rattle.session.specs.declared.record.Session.{Session}
-use Rattle.session.specs.Call.Call.{Begin, Early, Handshake, Application, Complete, Update}
-use Rattle.session.specs.Book.{Book, stageOf}
-use Rattle.session.specs.Refusals.{number, beginNumber, earlyNumber, handshakeNumber, applicationNumber, completeNumber, updateNumber, Reached}
+use Rattle.book.specs.Call.Call.{Begin, Early, Handshake, Application, Complete, Update}
+use Rattle.book.specs.Book.{Book, stageOf}
+use Rattle.book.specs.Refusals.{number, beginNumber, earlyNumber, handshakeNumber, applicationNumber, completeNumber, updateNumber, Reached}
 use Rattle.session.specs.Session.{sessionOf}
-use Rattle.session.proofs.Accepted.{BeginTaken, EarlyTaken, HandshakeTaken, UpdateTaken, begin-zero, early-zero, handshake-zero, application-zero, complete-zero, update-zero}
+use Rattle.book.proofs.Accepted.{BeginTaken, EarlyTaken, HandshakeTaken, UpdateTaken, begin-zero, early-zero, handshake-zero, application-zero, complete-zero, update-zero}
 
 module _ (s : Session) {n : ℕ} where
   pub begin-is : (suite kind : ℕ) (psk : List ℕ) → n ≡ beginNumber (s .point) suite kind (length psk) → (b : Book) → Reached b →

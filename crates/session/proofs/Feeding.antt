@@ -19,17 +19,17 @@ use Rattle.schedule.specs.Schedule.{updated}
 use Rattle.schedule.specs.Diagram.{Chain, from, until}
 use Rattle.schedule.specs.Diagram.Chain.{early-secret, handshake-secret, master-secret}
 use Rattle.session.specs.declared.record.Session.{Session}
-use Rattle.session.specs.Call.Call.{Feed}
-use Rattle.session.specs.Messages.{typeOf, stageAfter, upTo, transcript}
-use Rattle.session.specs.Book.{Book, stageOf, fedOf, note}
-use Rattle.session.specs.Refusals.{number, feedNumber, Reached}
-use Rattle.session.specs.Held.{earlyHeld, binderHeld, handshakeHeld, applicationHeld, resumptionHeld}
+use Rattle.book.specs.Call.Call.{Feed}
+use Rattle.book.specs.Messages.{typeOf, stageAfter, upTo, transcript}
+use Rattle.book.specs.Book.{Book, stageOf, fedOf, note}
+use Rattle.book.specs.Refusals.{number, feedNumber, Reached}
+use Rattle.book.specs.Held.{earlyHeld, binderHeld, handshakeHeld, applicationHeld, resumptionHeld}
 use Rattle.session.specs.Values.{earlySecretOf, handshakeSecretOf, masterSecretOf, chainOf, secretOf, clientApplication, serverApplication}
 use Rattle.session.specs.Session.{place, blankRunning, sessionOf}
-use Rattle.session.proofs.Accepted.{Taking, FeedTaken, feed-zero}
-use Rattle.session.proofs.Accepted.Taking.{at-early, at-handshake, at-application}
-use Rattle.session.proofs.Books.{Good, good}
-use Rattle.session.proofs.Transcripts.{stage-snoc, transcript-snoc, upTo-kept}
+use Rattle.book.proofs.Accepted.{Taking, FeedTaken, feed-zero}
+use Rattle.book.proofs.Accepted.Taking.{at-early, at-handshake, at-application}
+use Rattle.book.proofs.Books.{Good, good}
+use Rattle.book.proofs.Transcripts.{stage-snoc, transcript-snoc, upTo-kept}
 use Rattle.session.proofs.Fields.{same-session, suite-is, point-is, stage-is}
 
 fed-chain : (b : Book) (m : List ℕ) (c : Chain) → chainOf c (note b (Feed m)) ≡ chainOf c b

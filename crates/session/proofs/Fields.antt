@@ -10,9 +10,9 @@ use Rattle.sha2.specs.Running.{runningOf}
 use Rattle.schedule.specs.Labels.{binderOf}
 use Rattle.schedule.specs.Labels.Secret.{client-early, early-exporter, client-handshake, server-handshake, exporter, resumption}
 use Rattle.session.specs.declared.record.Session.{Session}
-use Rattle.session.specs.Messages.{transcript}
-use Rattle.session.specs.Book.{Book, stageOf}
-use Rattle.session.specs.Held.{chainHeld, binderHeld, earlyHeld, handshakeHeld, applicationHeld, resumptionHeld}
+use Rattle.book.specs.Messages.{transcript}
+use Rattle.book.specs.Book.{Book, stageOf}
+use Rattle.book.specs.Held.{chainHeld, binderHeld, earlyHeld, handshakeHeld, applicationHeld, resumptionHeld}
 use Rattle.session.specs.Values.{earlySecretOf, handshakeSecretOf, masterSecretOf, secretOf, clientApplication, serverApplication}
 use Rattle.session.specs.Session.{place, chainAt, blankRunning, sessionOf}
 

@@ -1,14 +1,6 @@
-pub mod Accepted
-pub mod AcceptedReads
-pub mod Table
-pub mod Moves
-pub mod Bytes
 pub mod Calls
 pub mod Decisions
-pub mod Transcripts
-pub mod Books
 pub mod Fields
 pub mod Feeding
 pub mod Secrets
 pub mod Steps
-pub mod Cases

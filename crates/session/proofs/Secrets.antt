@@ -22,11 +22,11 @@ use Rattle.schedule.specs.Diagram.{from, until}
 use Rattle.schedule.specs.Schedule.{fromHash, nextTrafficSecret, updated}
 use Rattle.schedule.proofs.Laws.{from-hash, length-early, length-handshake, length-master, length-updated}
 use Rattle.session.specs.declared.record.Session.{Session}
-use Rattle.session.specs.Messages.{upTo, transcript}
-use Rattle.session.specs.Book.{Book, fedOf}
+use Rattle.book.specs.Messages.{upTo, transcript}
+use Rattle.book.specs.Book.{Book, fedOf}
 use Rattle.session.specs.Values.{earlySecretOf, handshakeSecretOf, masterSecretOf, chainOf, secretOf, clientApplication, serverApplication, transcriptHash}
 use Rattle.session.specs.Session.{blankRunning, sessionOf}
-use Rattle.session.proofs.Transcripts.{upTo-none}
+use Rattle.book.proofs.Transcripts.{upTo-none}
 use Rattle.session.proofs.Fields.{suite-is, transcript-at}
 
 -- lengths

@@ -23,13 +23,13 @@ use Rattle.schedule.specs.Diagram.{from, until}
 use Rattle.schedule.specs.Schedule.{within, earlySecret, handshakeSecret, masterSecret, fromHash, nextTrafficSecret, updated}
 use Rattle.schedule.proofs.Laws.{within-limit}
 use Rattle.session.specs.declared.record.Session.{Session}
-use Rattle.session.specs.Call.Call.{Begin, Early, Handshake, Application, Complete, Update, Close}
-use Rattle.session.specs.Messages.{stageFrom, upTo, transcript}
-use Rattle.session.specs.Book.{Book, blankAt, stageOf, fedOf, note}
-use Rattle.session.specs.Held.{binderHeld, applicationHeld}
+use Rattle.book.specs.Call.Call.{Begin, Early, Handshake, Application, Complete, Update, Close}
+use Rattle.book.specs.Messages.{stageFrom, upTo, transcript}
+use Rattle.book.specs.Book.{Book, blankAt, stageOf, fedOf, note}
+use Rattle.book.specs.Held.{binderHeld, applicationHeld}
 use Rattle.session.specs.Values.{earlySecretOf, handshakeSecretOf, masterSecretOf, chainOf, secretOf, clientApplication, serverApplication, transcriptHash}
-use Rattle.session.specs.Session.{place, sessionOf}
-use Rattle.session.proofs.Books.{Good}
+use Rattle.session.specs.Session.{place, chainAt, sessionOf}
+use Rattle.book.proofs.Books.{Good}
 use Rattle.session.proofs.Secrets.{binder-secret, hash-of, derived-place, moved-place, early-of, handshake-of, master-of, length-clientApplication, length-serverApplication}
 use Rattle.session.proofs.Fields.{same-session, suite-is, kind-is, ran-is, point-is, stage-is, client-updates-is, server-updates-is, transcript-at, chain-at, binder-key-at, client-early-at, early-exporter-at, client-handshake-at, server-handshake-at, client-application-at, server-application-at, exporter-at, resumption-at}
 
@@ -483,3 +483,8 @@ pub closed : (b : Book) (z : Session) → z ≡ sessionOf (blankAt 0)
     (sessionOf (note b Close))
 unfolding sessionOf note stageFrom
 closed b z e = rw e
+
+-- the chain secret right after Begin
+pub begun-chain : (b : Book) (suite kind : ℕ) (psk : List ℕ) → chainAt (note b (Begin suite kind psk)) ≡ earlySecret suite psk
+unfolding note earlySecretOf
+begun-chain b suite kind psk = refl

@@ -9,9 +9,9 @@ use Rattle.buffer.specs.Buffer.{fronted}
 use Rattle.refusal.specs.declared.Answer.{Answer}
 use Rattle.refusal.specs.Refusal as Refusal
 use Rattle.session.specs.declared.record.Session.{Session}
-use Rattle.session.specs.Call.{Call, lent}
-use Rattle.session.specs.Book.{Book}
-use Rattle.session.specs.Refusals.{number, next, Reached}
+use Rattle.book.specs.Call.{Call, lent}
+use Rattle.book.specs.Book.{Book}
+use Rattle.book.specs.Refusals.{number, next, Reached}
 use Rattle.session.specs.Values.{written, verdict}
 use Rattle.session.specs.Session.{sessionOf}
 

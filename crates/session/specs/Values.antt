@@ -10,11 +10,11 @@ use Rattle.schedule.specs.Labels.Secret.{client-early, early-exporter, client-h
 use Rattle.schedule.specs.Diagram.{Chain, from, until}
 use Rattle.schedule.specs.Diagram.Chain.{early-secret, handshake-secret, master-secret}
 use Rattle.schedule.specs.Schedule.{earlySecret, handshakeSecret, masterSecret, updated, trafficKeys, verifyData, tlsExporter}
-use Rattle.session.specs.Call.{Call}
-use Rattle.session.specs.Call.Call.{Begin, Feed, Early, Handshake, Application, Complete, Update, Close, Keys, Finished, Check, Binder, Export}
-use Rattle.session.specs.Messages.{upTo, transcript}
-use Rattle.session.specs.Book.{Book}
-use Rattle.session.specs.Refusals.{lengthInForce}
+use Rattle.book.specs.Call.{Call}
+use Rattle.book.specs.Call.Call.{Begin, Feed, Early, Handshake, Application, Complete, Update, Close, Keys, Finished, Check, Binder, Export}
+use Rattle.book.specs.Messages.{upTo, transcript}
+use Rattle.book.specs.Book.{Book}
+use Rattle.book.specs.Refusals.{lengthInForce}
 
 -- down the middle of the diagram
 unfoldable pub earlySecretOf : Book → List ℕ

@@ -1,13 +1,14 @@
 // Application: the secrets for application data.
-use super::numbers::application_number;
 use super::record::Outcome;
 use super::record::Session;
+use book::points::APPLICATION;
+use change_numbers::application_number;
 use refusal::Answer;
 use schedule::secrets::application_secrets;
 use schedule::secrets::master_secret;
 use sha2::running::finish;
 ghost use mathlib.Core.Path.{_≡_};
-ghost use Rattle.session.specs.Call.{Call};
+ghost use Rattle.book.specs.Call.{Call};
 ghost use Rattle.session.specs.Promise.{Done, plain};
 
 // At Handshake, after the server's Finished; goes to Application. Refusal 1.
@@ -31,7 +32,7 @@ pub fn application(s: Session) -> Outcome
     let server = made.server;
     let exporter = made.exporter;
     let mut next = s;
-    next.point = 3;
+    next.point = APPLICATION;
     next.chain = chain;
     next.client_application = client;
     next.server_application = server;

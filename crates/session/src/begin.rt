@@ -1,8 +1,9 @@
 // Begin: suite, PSK kind and PSK.
-use super::numbers::begin_number;
 use super::record::Outcome;
 use super::record::Session;
 use super::record::fresh;
+use book::points::EARLY;
+use change_numbers::begin_number;
 use refusal::Answer;
 use schedule::secrets::binder_key;
 use schedule::secrets::early_secret;
@@ -15,7 +16,7 @@ ghost use lib.ListN.{take};
 ghost use Rattle.suite.specs.Suite.{hashLen};
 ghost use Rattle.hkdf.specs.Rfc8446.{deriveSecret};
 ghost use Rattle.schedule.specs.Labels.{label, binderOf};
-ghost use Rattle.session.specs.Call.{Call};
+ghost use Rattle.book.specs.Call.{Call};
 ghost use Rattle.session.specs.Session.{place};
 ghost use Rattle.session.specs.Promise.{Done, plain};
 
@@ -44,7 +45,7 @@ pub fn begin(s: Session, suite: u16, kind: u8, psk: &[u8]) -> Outcome
     let binder = binder_place(suite, kind, chain);
     let transcript = start(suite);
     let mut next = fresh();
-    next.point = 1;
+    next.point = EARLY;
     next.kind = kind;
     next.suite = suite;
     next.transcript = transcript;

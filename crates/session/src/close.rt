@@ -2,9 +2,10 @@
 use super::record::Outcome;
 use super::record::Session;
 use super::record::fresh;
+use book::points::CLOSED;
 use refusal::Answer;
 ghost use mathlib.Core.Path.{_≡_};
-ghost use Rattle.session.specs.Call.{Call};
+ghost use Rattle.book.specs.Call.{Call};
 ghost use Rattle.session.specs.Promise.{Done, plain};
 
 // Always accepted: everything becomes zero, the point Closed.
@@ -12,7 +13,7 @@ pub fn close(s: Session) -> Outcome
     ensures { λ r. ⌜ Done s Call.Close (r .session) (plain (r .answer)) ⌝ }
 {
     let mut next = fresh();
-    next.point = 5;
+    next.point = CLOSED;
     Outcome {
         session: next,
         answer: Answer::decided(0, 0),

@@ -1,12 +1,13 @@
 // Complete: the end of the handshake.
-use super::numbers::complete_number;
 use super::record::Outcome;
 use super::record::Session;
+use book::points::COMPLETE;
+use change_numbers::complete_number;
 use refusal::Answer;
 use schedule::secrets::resumption_secret;
 use sha2::running::finish;
 ghost use mathlib.Core.Path.{_≡_};
-ghost use Rattle.session.specs.Call.{Call};
+ghost use Rattle.book.specs.Call.{Call};
 ghost use Rattle.session.specs.Promise.{Done, plain};
 
 // At Application, after the client's Finished; goes to Complete, where only the application, exporter and resumption secrets
@@ -28,7 +29,7 @@ pub fn complete(s: Session) -> Outcome
     let resumption = resumption_secret(suite, master, hash);
     let none = buffer::zeros48();
     let mut next = s;
-    next.point = 4;
+    next.point = COMPLETE;
     next.chain = none;
     next.client_early = none;
     next.early_exporter = none;

@@ -1,12 +1,12 @@
 // Early: the secrets for early data.
-use super::numbers::early_number;
 use super::record::Outcome;
 use super::record::Session;
+use change_numbers::early_number;
 use refusal::Answer;
 use schedule::secrets::early_secrets;
 use sha2::running::finish;
 ghost use mathlib.Core.Path.{_≡_};
-ghost use Rattle.session.specs.Call.{Call};
+ghost use Rattle.book.specs.Call.{Call};
 ghost use Rattle.session.specs.Promise.{Done, plain};
 
 // At Early, between ClientHello and ServerHello, once. Refusals 1 and 3.

@@ -1,13 +1,13 @@
 // Feed: one whole handshake message.
-use super::messages::byte_at;
-use super::messages::stage_after;
-use super::numbers::feed_number;
 use super::record::Outcome;
 use super::record::Session;
+use buffer::byte_at;
+use change_numbers::feed_number;
+use change_numbers::messages::stage_after;
 use refusal::Answer;
 use sha2::running::absorb;
 ghost use mathlib.Core.Path.{_≡_};
-ghost use Rattle.session.specs.Call.{Call};
+ghost use Rattle.book.specs.Call.{Call};
 ghost use Rattle.session.specs.Promise.{Done, plain};
 
 // Absorbs the message into the transcript. Refusals 1, 7, 8 and 9.

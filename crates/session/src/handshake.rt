@@ -1,13 +1,14 @@
 // Handshake: the shared secret.
-use super::numbers::handshake_number;
 use super::record::Outcome;
 use super::record::Session;
+use book::points::HANDSHAKE;
+use change_numbers::handshake_number;
 use refusal::Answer;
 use schedule::secrets::handshake_secret;
 use schedule::secrets::handshake_secrets;
 use sha2::running::finish;
 ghost use mathlib.Core.Path.{_≡_};
-ghost use Rattle.session.specs.Call.{Call};
+ghost use Rattle.book.specs.Call.{Call};
 ghost use Rattle.session.specs.Promise.{Done, plain};
 
 // At Early, after the ServerHello; goes to Handshake. Refusals 1, 2, 4, 5 and 6.
@@ -31,7 +32,7 @@ pub fn handshake(s: Session, group: u16, secret: &[u8]) -> Outcome
     let server = made.server;
     let none = buffer::zeros48();
     let mut next = s;
-    next.point = 2;
+    next.point = HANDSHAKE;
     next.chain = chain;
     next.binder_key = none;
     next.client_handshake = client;

@@ -1,8 +1,10 @@
 // The session record.
+use book::points::FRESH;
+use book::points::NO_MESSAGE;
 use refusal::Answer;
 use sha2::running::Running;
 ghost use mathlib.Core.Path.{_≡_};
-ghost use Rattle.session.specs.Book.{blankAt, fresh};
+ghost use Rattle.book.specs.Book.{blankAt, fresh};
 ghost use Rattle.session.specs.Session.{blankRunning, sessionOf};
 
 // Numbers and arrays only, so that every bit pattern is a session; and no padding, so that two sessions with equal fields are
@@ -54,8 +56,8 @@ pub fn fresh() -> Session
         suite: 0,
         kind: 0,
         early: 0,
-        point: 0,
-        stage: 0,
+        point: FRESH,
+        stage: NO_MESSAGE,
         client_updates: 0,
         server_updates: 0,
         transcript: h,

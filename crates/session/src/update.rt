@@ -1,11 +1,11 @@
 // Update: a side's next application secret.
-use super::numbers::update_number;
 use super::record::Outcome;
 use super::record::Session;
+use change_numbers::update_number;
 use refusal::Answer;
 use schedule::traffic::next_traffic_secret;
 ghost use mathlib.Core.Path.{_≡_};
-ghost use Rattle.session.specs.Call.{Call};
+ghost use Rattle.book.specs.Call.{Call};
 ghost use Rattle.session.specs.Promise.{Done, plain};
 
 // At Complete: side 1 is the client, 2 the server. Refusals 1, 2 and 12.

@@ -1,4 +1,5 @@
-// The compression function and the digest of SHA-384 (FIPS 180-4, section 6.4).
+// The hash value after whole blocks, and the digest, of SHA-384 (FIPS 180-4, section 6.4).
+use compress384::rounds::compress_words;
 ghost use mathlib.Core.Path.{_≡_};
 ghost use mathlib.Core.List.{_++_};
 ghost use Prim.Native.Nat.{_/_};
@@ -8,11 +9,6 @@ ghost use Rattle.fips180.specs.Variant.{sha384};
 ghost use Rattle.fips180.specs.Padding.{wordsOf};
 ghost use Rattle.fips180.specs.Hash.{digestOf};
 ghost use Rattle.fips180.specs.Rows.{folded, digestIn48};
-
-mod functions;
-mod rounds;
-
-use rounds::compress_words;
 
 // The sixteen words of a block.
 fn load(b: &[u8]) -> [u64; 16]

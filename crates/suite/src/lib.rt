@@ -3,6 +3,9 @@ ghost use mathlib.Core.Path.{_≡_};
 ghost use Prim.Native.Nat.{_≤_};
 ghost use Rattle.suite.specs.Suite.{known, suiteOf, hashOf, hashLen, blockLen, keyLen, ivLen};
 
+// The longest label of Expand-Label and of an exporter: with the prefix "tls13 " it has 255 bytes.
+pub const MAX_LABEL: usize = 249;
+
 // The hash of a suite.
 pub enum Hash {
     Sha256,

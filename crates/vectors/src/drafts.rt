@@ -8,12 +8,12 @@ use super::places::place;
 use check::same;
 use hkdf::label::expand_label;
 use hkdf::mac::extract;
+use oneshot::hash;
 use outputs::export::export;
 use refusal::Answer;
 use session::application::application;
 use session::handshake::handshake;
 use session::record::Session;
-use sha2::oneshot::hash;
 use suite::Suite;
 
 // Compares what the session's call and the draft's made.

@@ -1,8 +1,8 @@
 use Rattle.hkdf.proofs.Filling.{Filling, start, next-small, turn, done}
 use Rattle.hkdf.proofs.Values.{some-hash}
-use Rattle.hkdf.specs.Keyed.{keyedOf}
+use Rattle.hmac.specs.Keyed.{keyedOf}
 use Rattle.suite.specs.Suite.{hashLen}
-use Rattle.hkdf.proofs.Prepared.{mac-under}
+use Rattle.hmac.proofs.Prepared.{mac-under}
 use denote.Ref.{now}
 use mathlib.Core.Path.{_≡_}
 use lib.ListN.{length, take, length-take}

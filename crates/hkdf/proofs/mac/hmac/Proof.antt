@@ -1,7 +1,7 @@
 use Rattle.hkdf.proofs.Calls.{call-refused, call-done, mac-small, mac-fits, written, two-nothings}
-use Rattle.hkdf.proofs.Prepared.{mac-under}
-use Rattle.hkdf.proofs.Values.{length-hmac}
-use Rattle.hkdf.specs.Rfc2104.{hmac}
+use Rattle.hmac.proofs.Prepared.{mac-under}
+use Rattle.hmac.proofs.Prepared.{length-hmac}
+use Rattle.hmac.specs.Rfc2104.{hmac}
 use mathlib.Core.List.{List, []}
 use Prim.Native.Nat.{ℕ}
 use Rattle.buffer.specs.Buffer.{placed}

@@ -2,10 +2,10 @@ use Prim.Native.Nat.{ℕ, _≤_}
 use mathlib.Core.Path.{refl, sym, _∙_, subst}
 use denote.Ref.{now}
 use borrow.Author.Needs.{needs}
-use Rattle.session.specs.Call.Call.{Begin}
-use Rattle.session.specs.Call.{lent}
+use Rattle.book.specs.Call.Call.{Begin}
+use Rattle.book.specs.Call.{lent}
 use Rattle.session.specs.Values.{written, verdict}
-use Rattle.session.proofs.Accepted.{begin-small}
+use Rattle.book.proofs.Accepted.{begin-small}
 use Rattle.session.proofs.Calls.{refused-by, accepted-plain}
 use Rattle.session.proofs.Decisions.{begin-is, begin-taken}
 use Rattle.session.proofs.Steps.{begun}

@@ -1,8 +1,8 @@
 use mathlib.Core.Path.{refl}
 use borrow.Author.Needs.{needs}
-use Rattle.session.specs.Call.Call.{Close}
-use Rattle.session.specs.Call.{lent}
-use Rattle.session.specs.Refusals.{number}
+use Rattle.book.specs.Call.Call.{Close}
+use Rattle.book.specs.Call.{lent}
+use Rattle.book.specs.Refusals.{number}
 use Rattle.session.specs.Values.{written, verdict}
 use Rattle.session.proofs.Calls.{accepted-plain}
 use Rattle.session.proofs.Steps.{closed}

@@ -2,12 +2,12 @@ use Prim.Native.Nat.{ℕ, _≤_}
 use mathlib.Core.Path.{refl, sym, ap, _∙_, subst}
 use denote.Ref.{now}
 use borrow.Author.Needs.{needs}
-use Rattle.session.specs.Call.Call.{Feed}
-use Rattle.session.specs.Call.{lent}
-use Rattle.session.specs.Messages.{stageAfter}
+use Rattle.book.specs.Call.Call.{Feed}
+use Rattle.book.specs.Call.{lent}
+use Rattle.book.specs.Messages.{stageAfter}
 use Rattle.session.specs.Values.{written, verdict}
-use Rattle.session.proofs.Accepted.{feed-small}
-use Rattle.session.proofs.Books.{good}
+use Rattle.book.proofs.Accepted.{feed-small}
+use Rattle.book.proofs.Books.{good}
 use Rattle.session.proofs.Calls.{refused-by, accepted-plain}
 use Rattle.session.proofs.Feeding.{feed-is, feed-taken, fed-running, fed}
 use Rattle.session.proofs.feed.feed.Statement.{statement}

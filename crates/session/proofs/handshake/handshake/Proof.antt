@@ -2,11 +2,11 @@ use Prim.Native.Nat.{ℕ, _≤_}
 use mathlib.Core.Path.{refl, sym, _∙_, subst}
 use denote.Ref.{now}
 use borrow.Author.Needs.{needs}
-use Rattle.session.specs.Call.Call.{Handshake}
-use Rattle.session.specs.Call.{lent}
+use Rattle.book.specs.Call.Call.{Handshake}
+use Rattle.book.specs.Call.{lent}
 use Rattle.session.specs.Values.{written, verdict}
-use Rattle.session.proofs.Accepted.{handshake-small}
-use Rattle.session.proofs.Books.{good}
+use Rattle.book.proofs.Accepted.{handshake-small}
+use Rattle.book.proofs.Books.{good}
 use Rattle.session.proofs.Calls.{refused-by, accepted-plain}
 use Rattle.session.proofs.Decisions.{handshake-is, handshake-taken}
 use Rattle.session.proofs.Steps.{shaken}

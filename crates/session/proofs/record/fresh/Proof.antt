@@ -1,5 +1,5 @@
 use borrow.Author.Needs.{needs}
-use Rattle.session.specs.Messages.{stageFrom}
+use Rattle.book.specs.Messages.{stageFrom}
 use Rattle.session.specs.Session.{sessionOf}
 use Rattle.session.proofs.record.fresh.Statement.{statement}
 use Rattle.session.proofs.record.fresh.Tie as tie

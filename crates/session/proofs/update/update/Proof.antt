@@ -2,10 +2,10 @@ use Prim.Native.Nat.{ℕ, _≤_}
 use mathlib.Core.Path.{refl, sym, _∙_, subst}
 use native.Mathlib.Omega.{arith}
 use borrow.Author.Needs.{needs}
-use Rattle.session.specs.Call.Call.{Update}
-use Rattle.session.specs.Call.{lent}
+use Rattle.book.specs.Call.Call.{Update}
+use Rattle.book.specs.Call.{lent}
 use Rattle.session.specs.Values.{written, verdict}
-use Rattle.session.proofs.Accepted.{update-small}
+use Rattle.book.proofs.Accepted.{update-small}
 use Rattle.session.proofs.Calls.{refused-by, accepted-plain}
 use Rattle.session.proofs.Decisions.{client-left, server-left, update-is, update-taken}
 use Rattle.session.proofs.Steps.{updated-client, updated-server}

@@ -1,0 +1,9 @@
+pub mod Accepted
+pub mod AcceptedReads
+pub mod Numbers
+pub mod Table
+pub mod Moves
+pub mod Bytes
+pub mod Transcripts
+pub mod Books
+pub mod Cases

@@ -1,0 +1,317 @@
+// The rounds of SHA-384, sixteen at a time (FIPS 180-4, sections 4.2.3 and 6.4.2).
+ghost use mathlib.Core.Path.{_≡_};
+ghost use Prim.Native.Nat.{_<_};
+ghost use Rattle.fips180.specs.Variant.{sha384};
+ghost use Rattle.fips180.specs.Hash.{compress};
+ghost use Rattle.fips180.specs.Rows.{constantsAt, advanced, roundsWith, wordsAt};
+use super::functions::next_word;
+use super::functions::round;
+use super::functions::sums;
+
+const K: [u64; 80] = [
+    0x428a2f98d728ae22,
+    0x7137449123ef65cd,
+    0xb5c0fbcfec4d3b2f,
+    0xe9b5dba58189dbbc,
+    0x3956c25bf348b538,
+    0x59f111f1b605d019,
+    0x923f82a4af194f9b,
+    0xab1c5ed5da6d8118,
+    0xd807aa98a3030242,
+    0x12835b0145706fbe,
+    0x243185be4ee4b28c,
+    0x550c7dc3d5ffb4e2,
+    0x72be5d74f27b896f,
+    0x80deb1fe3b1696b1,
+    0x9bdc06a725c71235,
+    0xc19bf174cf692694,
+    0xe49b69c19ef14ad2,
+    0xefbe4786384f25e3,
+    0x0fc19dc68b8cd5b5,
+    0x240ca1cc77ac9c65,
+    0x2de92c6f592b0275,
+    0x4a7484aa6ea6e483,
+    0x5cb0a9dcbd41fbd4,
+    0x76f988da831153b5,
+    0x983e5152ee66dfab,
+    0xa831c66d2db43210,
+    0xb00327c898fb213f,
+    0xbf597fc7beef0ee4,
+    0xc6e00bf33da88fc2,
+    0xd5a79147930aa725,
+    0x06ca6351e003826f,
+    0x142929670a0e6e70,
+    0x27b70a8546d22ffc,
+    0x2e1b21385c26c926,
+    0x4d2c6dfc5ac42aed,
+    0x53380d139d95b3df,
+    0x650a73548baf63de,
+    0x766a0abb3c77b2a8,
+    0x81c2c92e47edaee6,
+    0x92722c851482353b,
+    0xa2bfe8a14cf10364,
+    0xa81a664bbc423001,
+    0xc24b8b70d0f89791,
+    0xc76c51a30654be30,
+    0xd192e819d6ef5218,
+    0xd69906245565a910,
+    0xf40e35855771202a,
+    0x106aa07032bbd1b8,
+    0x19a4c116b8d2d0c8,
+    0x1e376c085141ab53,
+    0x2748774cdf8eeb99,
+    0x34b0bcb5e19b48a8,
+    0x391c0cb3c5c95a63,
+    0x4ed8aa4ae3418acb,
+    0x5b9cca4f7763e373,
+    0x682e6ff3d6b2b8a3,
+    0x748f82ee5defb2fc,
+    0x78a5636f43172f60,
+    0x84c87814a1f0ab72,
+    0x8cc702081a6439ec,
+    0x90befffa23631e28,
+    0xa4506cebde82bde9,
+    0xbef9a3f7b2c67915,
+    0xc67178f2e372532b,
+    0xca273eceea26619c,
+    0xd186b8c721c0c207,
+    0xeada7dd6cde0eb1e,
+    0xf57d4f7fee6ed178,
+    0x06f067aa72176fba,
+    0x0a637dc5a2c898a6,
+    0x113f9804bef90dae,
+    0x1b710b35131c471b,
+    0x28db77f523047d84,
+    0x32caab7b40c72493,
+    0x3c9ebe0a15c9bebc,
+    0x431d67c49c100d4c,
+    0x4cc5d4becb3e42b6,
+    0x597f299cfc657e2a,
+    0x5fcb6fab3ad6faec,
+    0x6c44198c4a475817,
+];
+
+// The rows of the table: the constants of sixteen rounds each.
+fn row0() -> [u64; 16]
+    ensures { λ r. ⌜ r ≡ constantsAt sha384 0 ⌝ }
+{
+    [
+        K[0],
+        K[1],
+        K[2],
+        K[3],
+        K[4],
+        K[5],
+        K[6],
+        K[7],
+        K[8],
+        K[9],
+        K[10],
+        K[11],
+        K[12],
+        K[13],
+        K[14],
+        K[15],
+    ]
+}
+
+fn row1() -> [u64; 16]
+    ensures { λ r. ⌜ r ≡ constantsAt sha384 1 ⌝ }
+{
+    [
+        K[16],
+        K[17],
+        K[18],
+        K[19],
+        K[20],
+        K[21],
+        K[22],
+        K[23],
+        K[24],
+        K[25],
+        K[26],
+        K[27],
+        K[28],
+        K[29],
+        K[30],
+        K[31],
+    ]
+}
+
+fn row2() -> [u64; 16]
+    ensures { λ r. ⌜ r ≡ constantsAt sha384 2 ⌝ }
+{
+    [
+        K[32],
+        K[33],
+        K[34],
+        K[35],
+        K[36],
+        K[37],
+        K[38],
+        K[39],
+        K[40],
+        K[41],
+        K[42],
+        K[43],
+        K[44],
+        K[45],
+        K[46],
+        K[47],
+    ]
+}
+
+fn row3() -> [u64; 16]
+    ensures { λ r. ⌜ r ≡ constantsAt sha384 3 ⌝ }
+{
+    [
+        K[48],
+        K[49],
+        K[50],
+        K[51],
+        K[52],
+        K[53],
+        K[54],
+        K[55],
+        K[56],
+        K[57],
+        K[58],
+        K[59],
+        K[60],
+        K[61],
+        K[62],
+        K[63],
+    ]
+}
+
+fn row4() -> [u64; 16]
+    ensures { λ r. ⌜ r ≡ constantsAt sha384 4 ⌝ }
+{
+    [
+        K[64],
+        K[65],
+        K[66],
+        K[67],
+        K[68],
+        K[69],
+        K[70],
+        K[71],
+        K[72],
+        K[73],
+        K[74],
+        K[75],
+        K[76],
+        K[77],
+        K[78],
+        K[79],
+    ]
+}
+
+// The constants of the sixteen rounds from round 16 q on.
+fn constants(q: usize) -> [u64; 16]
+    requires { ⌜ q < 5 ⌝ }
+    ensures { λ r. ⌜ r ≡ constantsAt sha384 q ⌝ }
+{
+    match q {
+        0 => row0(),
+        1 => row1(),
+        2 => row2(),
+        3 => row3(),
+        _ => row4(),
+    }
+}
+
+// The sixteen words of the message schedule after the sixteen words m, four more of them in each step.
+fn four_words(m: [u64; 16]) -> [u64; 16]
+    ensures { λ r. ⌜ r ≡ advanced sha384 m 4 ⌝ }
+{
+    let mut w = m;
+    w[0] = next_word(w[0], w[1], w[9], w[14]);
+    w[1] = next_word(w[1], w[2], w[10], w[15]);
+    w[2] = next_word(w[2], w[3], w[11], w[0]);
+    w[3] = next_word(w[3], w[4], w[12], w[1]);
+    w
+}
+
+fn eight_words(m: [u64; 16]) -> [u64; 16]
+    ensures { λ r. ⌜ r ≡ advanced sha384 m 8 ⌝ }
+{
+    let mut w = four_words(m);
+    w[4] = next_word(w[4], w[5], w[13], w[2]);
+    w[5] = next_word(w[5], w[6], w[14], w[3]);
+    w[6] = next_word(w[6], w[7], w[15], w[4]);
+    w[7] = next_word(w[7], w[8], w[0], w[5]);
+    w
+}
+
+fn twelve_words(m: [u64; 16]) -> [u64; 16]
+    ensures { λ r. ⌜ r ≡ advanced sha384 m 12 ⌝ }
+{
+    let mut w = eight_words(m);
+    w[8] = next_word(w[8], w[9], w[1], w[6]);
+    w[9] = next_word(w[9], w[10], w[2], w[7]);
+    w[10] = next_word(w[10], w[11], w[3], w[8]);
+    w[11] = next_word(w[11], w[12], w[4], w[9]);
+    w
+}
+
+fn next_words(m: [u64; 16]) -> [u64; 16]
+    ensures { λ r. ⌜ r ≡ advanced sha384 m 16 ⌝ }
+{
+    let mut w = twelve_words(m);
+    w[12] = next_word(w[12], w[13], w[5], w[10]);
+    w[13] = next_word(w[13], w[14], w[6], w[11]);
+    w[14] = next_word(w[14], w[15], w[7], w[12]);
+    w[15] = next_word(w[15], w[0], w[8], w[13]);
+    w
+}
+
+// Sixteen rounds, with their constants and their words.
+fn rounds(s: [u64; 8], k: [u64; 16], w: [u64; 16]) -> [u64; 8]
+    ensures { λ r. ⌜ r ≡ roundsWith sha384 s k w 16 ⌝ }
+{
+    let x1 = round(s, k[0], w[0]);
+    let x2 = round(x1, k[1], w[1]);
+    let x3 = round(x2, k[2], w[2]);
+    let x4 = round(x3, k[3], w[3]);
+    let x5 = round(x4, k[4], w[4]);
+    let x6 = round(x5, k[5], w[5]);
+    let x7 = round(x6, k[6], w[6]);
+    let x8 = round(x7, k[7], w[7]);
+    let x9 = round(x8, k[8], w[8]);
+    let x10 = round(x9, k[9], w[9]);
+    let x11 = round(x10, k[10], w[10]);
+    let x12 = round(x11, k[11], w[11]);
+    let x13 = round(x12, k[12], w[12]);
+    let x14 = round(x13, k[13], w[13]);
+    let x15 = round(x14, k[14], w[14]);
+    round(x15, k[15], w[15])
+}
+
+// The words of the sixteen rounds from round 16 q on, from those of the sixteen rounds before.
+fn words_at(w: [u64; 16], q: usize) -> [u64; 16]
+    ensures { λ r. ⌜ r ≡ wordsAt sha384 w q ⌝ }
+{
+    if q == 0 {
+        return w;
+    }
+    next_words(w)
+}
+
+// The hash value after the words of a block, from the one before it.
+pub fn compress_words(s: [u64; 8], m: [u64; 16]) -> [u64; 8]
+    ensures { λ r. ⌜ r ≡ compress sha384 s m ⌝ }
+{
+    let mut x = s;
+    let mut w = m;
+    let mut q: usize = 0;
+    while q < 5 {
+        let z = words_at(w, q);
+        w = z;
+        let k = constants(q);
+        let y = rounds(x, k, w);
+        x = y;
+        q += 1;
+    }
+    sums(s, x)
+}

@@ -1,0 +1,2 @@
+pub mod Rfc2104
+pub mod Keyed

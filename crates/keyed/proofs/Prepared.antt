@@ -1,0 +1,104 @@
+-- Laws of the first block under a prepared key: what the code makes of any, and what of a key's own is Extract and Expand-Label.
+use Prim.Native.Nat.{ℕ, _+_, _/_, _%_, _≤_, min}
+use mathlib.Core.Path.{_≡_, refl, sym, ap, _∙_}
+use mathlib.Core.List.{List, [], _∷_, _++_, append-nil}
+use native.Mathlib.Nat.{div-eq-of-lt-le}
+use native.Mathlib.Omega.{arith}
+use lib.ListN.{length, take, length-append, length-take}
+use Rattle.buffer.specs.Buffer.{zeros, placed, after}
+use Rattle.buffer.proofs.Laws.{length-zeros, after-front, take-least}
+use Rattle.suite.specs.Suite.{hashLen}
+use Rattle.sha2.specs.declared.running.Running.{Running}
+use Rattle.sha2.specs.Variants.{variantOf}
+use Rattle.sha2.specs.Running.{absorbed}
+use Rattle.sha2.specs.Hash.{hash}
+use Rattle.sha2.proofs.Absorbing.{absorbed-append}
+use Rattle.hmac.specs.declared.Keyed.{Keyed}
+use Rattle.hmac.specs.Rfc2104.{hmac}
+use Rattle.hmac.specs.Keyed.{keyedOf, closed, macOf}
+use Rattle.hmac.proofs.Prepared.{length-hmac, mac-is, mac-under}
+use Rattle.hkdf.specs.Rfc5869.{extract, blocksFor, T, Ts, expand}
+use Rattle.hkdf.specs.Rfc8446.{tls13, hkdfLabel, expandLabel, deriveSecret}
+use Rattle.hkdf.specs.Refusals.{maxMessage}
+use Rattle.keyed.specs.Blocks.{labelBlock}
+use Rattle.hkdf.proofs.Filling.{placed-front}
+use Rattle.hkdf.proofs.Labels.{length-label}
+
+-- ---- any value of a prepared key
+
+module _ (suite : ℕ) where
+  -- the HkdfLabel and the first block's number, in parts
+  pub label-absorbed : (h : Running) (label context : List ℕ) (asked : ℕ) {p q s t u : Running}
+      → p ≡ absorbed (variantOf suite) h (asked / 256 % 256 ∷ asked % 256 ∷ (6 + length label % 256) % 256 ∷ tls13)
+      → q ≡ absorbed (variantOf suite) p label → s ≡ absorbed (variantOf suite) q (length context % 256 ∷ [])
+      → t ≡ absorbed (variantOf suite) s context → u ≡ absorbed (variantOf suite) t (1 ∷ [])
+      → u ≡ absorbed (variantOf suite) h (hkdfLabel tls13 asked label context ++ (1 ∷ []))
+  unfolding hkdfLabel
+  label-absorbed h label context asked ep eq es et eu =
+      let v = variantOf suite in
+      let m : (6 + length label % 256) % 256 ≡ (6 + length label) % 256 = omega arith in
+      let head : List ℕ = asked / 256 % 256 ∷ asked % 256 ∷ (6 + length label) % 256 ∷ tls13 in
+      let size : List ℕ = length context % 256 ∷ [] in
+      eu
+      ∙ ap (λ (z : Running). absorbed v z (1 ∷ []))
+      (et
+      ∙ ap (λ (z : Running). absorbed v z context)
+      (es
+      ∙ ap (λ (z : Running). absorbed v z size)
+      (eq ∙ ap (λ (z : Running). absorbed v z label) (ep ∙ rw m) ∙ sym (absorbed-append v h head label))
+      ∙ sym (absorbed-append v h (head ++ label) size))
+      ∙ sym (absorbed-append v h (head ++ label ++ size) context))
+      ∙ sym (absorbed-append v h (head ++ label ++ size ++ context) (1 ∷ []))
+
+  -- a block, cut and laid in 48 zeros
+  pub block-cut : (k : Keyed) (label context : List ℕ) (asked : ℕ) {n : ℕ} {i : Running} {t none r : List ℕ} → length t ≡ 48
+      → i ≡ absorbed (variantOf suite) (k .inner) (hkdfLabel tls13 asked label context ++ (1 ∷ [])) → t ≡ closed suite (k .outer) i
+      → n ≡ min asked 48 → none ≡ zeros 48 → r ≡ after 0 (take n t) none → r ≡ labelBlock suite k label context asked
+  unfolding labelBlock macOf placed
+  block-cut k label context asked {n} {i} {t} lt ei et en ez er =
+      let l : length (zeros 48) ≡ 48 = length-zeros 48 in
+      let c : take n t ≡ take asked t = ap (λ (j : ℕ). take j t) (en ∙ ap (min asked) (sym lt)) ∙ take-least asked t in
+      let w : length (take asked t) ≤ 48 = simp length-take (omega arith) in
+      er ∙ rw (c, ez, after-front (take asked t) (zeros 48) (omega arith)) (rw (et, ei))
+
+-- ---- a key's own
+
+pub extract-is : (suite : ℕ) (salt input : List ℕ) {n : ℕ} {k : Keyed} {r : List ℕ} → n ≡ min maxMessage (length input)
+    → k ≡ keyedOf suite salt → r ≡ macOf suite k (take n input ++ ([] ++ [])) → r ≡ placed (extract suite salt (take maxMessage input))
+unfolding extract
+extract-is suite salt input {n} en ek er =
+    let c : take n input ≡ take maxMessage input = ap (λ (j : ℕ). take j input) en ∙ take-least maxMessage input in
+    let l : length (take n input) ≤ 2097152 = simp length-take (omega arith) in
+    mac-under suite salt (take n input) [] [] (omega arith) ek er
+    ∙ ap (λ (m : List ℕ). placed (hmac suite salt m)) (append-nil (take n input) ∙ c)
+
+-- what is asked of one block is its front
+one-block : (h n : ℕ) → 1 ≤ n → n ≤ h → blocksFor h n ≡ 1
+unfolding blocksFor
+one-block h n some most = div-eq-of-lt-le h (omega arith) (omega arith)
+
+first-block : (suite : ℕ) (key info : List ℕ) (asked : ℕ) → 1 ≤ asked → asked ≤ hashLen suite
+    → take asked (placed (hmac suite key (info ++ (1 ∷ [])))) ≡ expand suite key info asked
+unfolding expand T Ts
+first-block suite key info asked some most =
+    let l = length-hmac suite key (info ++ (1 ∷ [])) in
+    rw (one-block (hashLen suite) asked some most) (placed-front (hmac suite key (info ++ (1 ∷ []))) asked (omega arith))
+
+pub label-block-is : (suite : ℕ) (key label context : List ℕ) (asked : ℕ) → 1 ≤ asked → asked ≤ hashLen suite → length label ≤ 249
+    → length context ≤ 255 → labelBlock suite (keyedOf suite key) label context asked ≡ placed (expandLabel suite key label context asked)
+unfolding labelBlock expandLabel
+label-block-is suite key label context asked some most hl hc =
+    let info = hkdfLabel tls13 asked label context in
+    let li : length info ≡ 10 + length label + length context = length-label asked label context in
+    let l : length (info ++ (1 ∷ [])) ≡ length info + 1 = length-append info (1 ∷ []) in
+    ap (λ (m : List ℕ). placed (take asked m)) (mac-is suite key (info ++ (1 ∷ [])) (omega arith))
+    ∙ ap placed (first-block suite key info asked some most)
+
+-- Derive-Secret, where the hash of the messages is at hand
+pub derive-by-hash : (suite : ℕ) (secret label m : List ℕ) → expandLabel suite secret label (hash suite m) (hashLen suite) ≡ deriveSecret suite secret label m
+unfolding deriveSecret
+derive-by-hash suite secret label m = refl
+
+pub length-extract : (suite : ℕ) (salt ikm : List ℕ) → length (extract suite salt ikm) ≡ hashLen suite
+unfolding extract
+length-extract suite salt ikm = length-hmac suite salt ikm
