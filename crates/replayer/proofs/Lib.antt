@@ -1,0 +1,5 @@
+pub mod Making
+pub mod Turns
+pub mod Records
+pub mod Numbers
+pub mod Replaying
