@@ -1,0 +1,5 @@
+pub mod Writing
+pub mod Sizes
+pub mod Going
+pub mod Giving
+pub mod Fitting
