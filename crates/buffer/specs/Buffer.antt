@@ -1,9 +1,9 @@
--- Lists of bytes that are written in part.
+-- Lists of bytes: compared, and written in part.
 use Prim.Native.Nat.{ℕ, _+_}
-use mathlib.Core.Bool.{cond}
-use mathlib.Core.List.{List, _++_}
+use mathlib.Core.Bool.{Bool, true, false, cond, _&&_}
+use mathlib.Core.List.{List, [], _∷_, _++_}
 use lib.ListN.{length, take, drop, replicate}
-use lib.Dec.{leb}
+use lib.Dec.{eqb, leb}
 
 -- n bytes of zero
 unfoldable pub zeros : ℕ → List ℕ
@@ -27,3 +27,10 @@ after at bs xs = cond (leb (at + length bs) (length xs)) (overwrite at bs xs) xs
 
 unfoldable pub behind : ℕ → List ℕ → List ℕ → ℕ
 behind at bs xs = cond (leb (at + length bs) (length xs)) (at + length bs) at
+
+-- whether two lists are equal
+unfoldable pub same : List ℕ → List ℕ → Bool
+same [] [] = true
+same [] (y ∷ ys) = false
+same (x ∷ xs) [] = false
+same (x ∷ xs) (y ∷ ys) = eqb x y && same xs ys

@@ -6,7 +6,7 @@ use mathlib.Core.Path.{_≡_, refl, sym, ap, _∙_, subst}
 use native.Mathlib.Omega.{arith}
 use lib.Dec.{eqb}
 use lib.ListN.{length, take}
-use Rattle.buffer.specs.Buffer.{fronted, placed, after, behind}
+use Rattle.buffer.specs.Buffer.{fronted, placed, after, behind, same}
 use Rattle.buffer.proofs.Laws.{take-placed}
 use Rattle.refusal.specs.declared.Answer.{Answer}
 use Rattle.refusal.specs.Refusal as Refusal
@@ -19,7 +19,7 @@ use Rattle.book.specs.Call.{Call, lent}
 use Rattle.book.specs.Call.Call.{Keys, Finished, Check, Binder}
 use Rattle.book.specs.Book.{Book, note}
 use Rattle.book.specs.Refusals.{number, Reached, keysNumber, finishedNumber, checkNumber, binderNumber}
-use Rattle.session.specs.Values.{written, same, verdict}
+use Rattle.session.specs.Values.{written, verdict}
 use Rattle.session.specs.Session.{sessionOf}
 use Rattle.session.specs.Promise.{Done, wrote}
 use Rattle.book.proofs.AcceptedReads.{keys-small, keys-zero, finished-small, finished-zero, check-small, binder-small, binder-zero}

@@ -9,7 +9,7 @@ use lib.Bits.{bitOr, bitXor}
 use lib.Dec.{eqb}
 use lib.ListN.{length, getD, drop, drop-of-length-le}
 use lib.Seq.{drop-cons}
-use Rattle.session.specs.Values.{same}
+use Rattle.buffer.specs.Buffer.{same}
 use Rattle.book.proofs.Bytes.{or-zero, xor-zero, and-assoc, and-yes}
 
 and-no : (x : Bool) → false ≡ (x && false)

@@ -8,7 +8,7 @@ use lib.Dec.{eqb, leb}
 use lib.ListN.{length, take}
 use borrow.Author.Tests.{eqb-true, ne-eqb}
 use Rattle.refusal.proofs.Laws.{and-true, or-true}
-use Rattle.buffer.specs.Buffer.{placed}
+use Rattle.buffer.specs.Buffer.{placed, same}
 use Rattle.buffer.proofs.Laws.{take-placed}
 use Rattle.suite.specs.Suite.{hashLen, maxLabel}
 use Rattle.sha2.specs.Hash.{hash, maxInput}
@@ -23,7 +23,7 @@ use Rattle.book.specs.Messages.{transcript}
 use Rattle.book.specs.Book.{Book, stageOf}
 use Rattle.book.specs.Held.{earlyHeld, handshakeHeld, applicationHeld}
 use Rattle.book.specs.Refusals.{number, Reached, lengthInForce}
-use Rattle.session.specs.Values.{secretOf, clientApplication, serverApplication, trafficSecret, transcriptHash, finishedValue, binderValue, exportedValue, written, same, verdict}
+use Rattle.session.specs.Values.{secretOf, clientApplication, serverApplication, trafficSecret, transcriptHash, finishedValue, binderValue, exportedValue, written, verdict}
 use Rattle.session.specs.Session.{place, sessionOf}
 use Rattle.book.proofs.AcceptedReads.{CheckTaken, Finishing, keys-zero, check-zero, finished-zero, binder-zero, export-zero}
 use Rattle.book.proofs.AcceptedReads.Finishing.{of-client, of-server}

@@ -8,8 +8,8 @@ use suite::Suite;
 ghost use mathlib.Core.Path.{_≡_};
 ghost use mathlib.Core.Bool.{false};
 ghost use Prim.Native.Nat.{min};
+ghost use Rattle.buffer.specs.Buffer.{same};
 ghost use Rattle.book.specs.Call.{Call};
-ghost use Rattle.session.specs.Values.{same};
 ghost use Rattle.session.specs.Promise.{Done};
 ghost use Rattle.outputs.specs.Verdict.{number, yes, judged};
 

@@ -1,8 +1,9 @@
 -- RFC 8446, section 7: the values that the book gives.
 use Prim.Native.Nat.{ℕ}
-use mathlib.Core.Bool.{Bool, true, false, cond, _&&_}
-use mathlib.Core.List.{List, [], _∷_}
+use mathlib.Core.Bool.{Bool, false, cond}
+use mathlib.Core.List.{List, []}
 use lib.Dec.{eqb}
+use Rattle.buffer.specs.Buffer.{same}
 use Rattle.sha2.specs.Hash.{hash}
 use Rattle.hkdf.specs.Rfc8446.{deriveSecret}
 use Rattle.schedule.specs.Labels.{Secret, label, binderOf}
@@ -82,13 +83,6 @@ written b (Finished side output) = finishedValue b side
 written b (Check side received) = []
 written b (Binder hello output) = binderValue b hello
 written b (Export name l context asked output) = exportedValue b name l context asked
-
--- Whether two lists of bytes are equal.
-unfoldable pub same : List ℕ → List ℕ → Bool
-same [] [] = true
-same [] (y ∷ ys) = false
-same (x ∷ xs) [] = false
-same (x ∷ xs) (y ∷ ys) = eqb x y && same xs ys
 
 -- Check's yes or no; every other call's is no.
 unfoldable pub verdict : Book → Call → Bool

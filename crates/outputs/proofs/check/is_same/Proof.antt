@@ -4,7 +4,7 @@ use mathlib.Core.Bool.{_&&_}
 use native.Mathlib.Omega.{arith}
 use lib.Dec.{eqb}
 use lib.ListN.{length, drop}
-use Rattle.session.specs.Values.{same}
+use Rattle.buffer.specs.Buffer.{same}
 use Rattle.outputs.proofs.Comparing.{other-length, same-turn, same-done}
 use Rattle.outputs.proofs.check.is_same.Statement.{statement}
 use Rattle.outputs.proofs.check.is_same.Tie as tie
