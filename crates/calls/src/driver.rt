@@ -1,5 +1,6 @@
 // The records of the input, one behind the other.
 use super::changes::change;
+use super::journals::make_read;
 use super::lent::lend;
 use super::output::say_count;
 use super::output::say_reply;
@@ -23,6 +24,7 @@ fn run_one(s: Session, kind: u16, payload: &[u8], out: &mut [u8]) -> Turn {
     match kind {
         0..=8 => change(s, kind, payload),
         103 => Turn::same(s, make_check(s, payload)),
+        302 => Turn::same(s, make_read(payload)),
         _ => Turn::same(s, lend(s, kind, payload, out)),
     }
 }

@@ -1,4 +1,5 @@
 // The calls that are lent an output.
+use super::journals::make_write;
 use super::lower::make_derive_secret;
 use super::lower::make_expand;
 use super::lower::make_expand_label;
@@ -50,6 +51,7 @@ fn make(s: Session, kind: u16, p: &[u8], lent: &mut [u8]) -> Reply {
         204 => make_expand(p, lent),
         205 => make_expand_label(p, lent),
         206 => make_derive_secret(p, lent),
+        301 => make_write(p, lent),
         _ => Reply::Bad,
     }
 }

@@ -1,10 +1,12 @@
 // Runs a list of calls from standard input, and prints what each answers.
 mod changes;
 mod driver;
+mod journals;
 mod lent;
 mod lower;
 mod output;
 mod payload;
+mod readings;
 mod reads;
 mod reply;
 

@@ -1,11 +1,11 @@
 // What is printed.
+use super::readings::say_reading;
 use super::reply::Reply;
+use buffer::least;
 use libc::STDOUT_FILENO;
 use session::record::Session;
 use text::decimal::put_decimal;
 use text::hex::put_hex;
-ghost use mathlib.Core.Path.{_≡_};
-ghost use Prim.Native.Nat.{min};
 
 pub(crate) fn say(words: &[u8]) {
     io::write_all(STDOUT_FILENO, words);
@@ -29,7 +29,7 @@ pub(crate) fn say_count(word: &[u8], n: u64) {
 }
 
 // A record's ordinal and kind, its answer's number and count.
-fn say_head(ordinal: u64, kind: u16, number: u8, count: usize) {
+pub(crate) fn say_head(ordinal: u64, kind: u16, number: u8, count: usize) {
     let mut line = [0u8; 96];
     let a = put_decimal(&mut line, 0, ordinal);
     let b = buffer::put(&mut line, a, b" ");
@@ -41,10 +41,12 @@ fn say_head(ordinal: u64, kind: u16, number: u8, count: usize) {
     say_front(&line, end);
 }
 
-fn least(a: usize, b: usize) -> usize
-    ensures { λ r. ⌜ r ≡ min a b ⌝ }
-{
-    if a < b { a } else { b }
+// A space and a number.
+pub(crate) fn say_number(n: u64) {
+    let mut line = [0u8; 32];
+    let a = buffer::put(&mut line, 0, b" ");
+    let end = put_decimal(&mut line, a, n);
+    say_front(&line, end);
 }
 
 // At most 1,024 bytes.
@@ -104,6 +106,7 @@ pub(crate) fn say_reply(ordinal: u64, kind: u16, reply: Reply, out: &[u8]) -> bo
             say_head(ordinal, kind, number, 0);
             say_verdict(yes);
         }
+        Reply::Read(reading) => say_reading(ordinal, kind, reading),
     }
     say(b"\n");
     true

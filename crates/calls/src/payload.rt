@@ -37,8 +37,3 @@ pub(crate) fn field_at(p: &[u8], at: usize) -> Field
         to: at + 4 + size,
     }
 }
-
-// The byte at index at of a payload, and 0 where it is not there.
-pub(crate) fn byte_at(p: &[u8], at: usize) -> u8 {
-    if at < p.len() { p[at] } else { 0 }
-}

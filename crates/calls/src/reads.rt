@@ -1,7 +1,7 @@
 // The calls that read the session: kinds 101 to 105.
-use super::payload::byte_at;
 use super::payload::field_at;
 use super::reply::Reply;
+use buffer::byte_at;
 use frames::number4;
 use outputs::binder::binder;
 use outputs::check::check;

@@ -1,4 +1,5 @@
 // What a record's call comes to.
+use journal::record::Reading;
 use outputs::check::Verdict;
 use refusal::Answer;
 use session::record::Outcome;
@@ -17,6 +18,8 @@ pub(crate) enum Reply {
     Plain(u8),
     // The answer's number, and whether the received bytes are the Finished value.
     Judged(u8, bool),
+    // What stands at a place of a journal.
+    Read(Reading),
 }
 
 impl Reply {
