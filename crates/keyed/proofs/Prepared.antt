@@ -27,6 +27,11 @@ use Rattle.hkdf.proofs.Labels.{length-label}
 -- ---- any value of a prepared key
 
 module _ (suite : ℕ) where
+  -- a key of the front of a place
+  pub ready-is : (s : List ℕ) {h : ℕ} {k : Keyed} → h ≡ hashLen suite → k ≡ keyedOf suite (take h s) → k ≡ keyedOf suite
+      (take (hashLen suite) s)
+  ready-is s eh ek = ek ∙ ap (λ (n : ℕ). keyedOf suite (take n s)) eh
+
   -- the HkdfLabel and the first block's number, in parts
   pub label-absorbed : (h : Running) (label context : List ℕ) (asked : ℕ) {p q s t u : Running}
       → p ≡ absorbed (variantOf suite) h (asked / 256 % 256 ∷ asked % 256 ∷ (6 + length label % 256) % 256 ∷ tls13)

@@ -1,5 +1,5 @@
-// HKDF-Extract, and the first block of HKDF-Expand-Label under a key that is prepared once. Every function here is total: the
-// calls above it judge lengths.
+// A secret prepared as a key, HKDF-Extract, and the first block of HKDF-Expand-Label under such a key. Every function here
+// is total: the calls above it judge lengths.
 use hkdf::mac::MAX_MESSAGE;
 use hmac::Keyed;
 use hmac::close;
@@ -7,16 +7,27 @@ use hmac::mac;
 use hmac::prepare;
 use sha2::running::Running;
 use sha2::running::absorb;
+use suite::Suite;
 ghost use mathlib.Core.Path.{_≡_};
 ghost use mathlib.Core.List.{[], _∷_, _++_};
 ghost use lib.ListN.{take};
 ghost use Rattle.buffer.specs.Buffer.{placed};
+ghost use Rattle.suite.specs.Suite.{hashLen};
 ghost use Rattle.sha2.specs.Variants.{variantOf};
 ghost use Rattle.sha2.specs.Running.{absorbed};
+ghost use Rattle.hmac.specs.Keyed.{keyedOf};
 ghost use Rattle.hkdf.specs.Rfc5869.{extract};
 ghost use Rattle.hkdf.specs.Rfc8446.{tls13, hkdfLabel};
 ghost use Rattle.hkdf.specs.Refusals.{maxMessage};
 ghost use Rattle.keyed.specs.Blocks.{labelBlock};
+
+// A secret in its place of 48 bytes, prepared as a key.
+pub fn ready(suite: u16, secret: [u8; 48]) -> Keyed
+    ensures { λ r. ⌜ r ≡ keyedOf suite (take (hashLen suite) secret) ⌝ }
+{
+    let h = Suite::hash_len(suite);
+    prepare(suite, &secret[..h])
+}
 
 // HKDF-Extract, in 48 bytes with zeros behind it. Of an input over the limit, which every call refuses, the bytes up to it
 // are read.

@@ -2,9 +2,9 @@
 use super::values::write_value;
 use read_numbers::binder_number;
 use refusal::Answer;
-use schedule::traffic::messages_hash;
-use schedule::traffic::verify_data;
 use session::record::Session;
+use traffic::messages_hash;
+use traffic::verify_data;
 ghost use Rattle.book.specs.Call.{Call};
 ghost use Rattle.session.specs.Promise.{Done, wrote};
 

@@ -2,9 +2,9 @@
 use super::values::write_part;
 use read_numbers::keys_number;
 use refusal::Answer;
-use schedule::traffic::traffic_keys;
 use session::record::Session;
 use suite::Suite;
+use traffic::traffic_keys;
 ghost use mathlib.Core.Path.{_≡_};
 ghost use Prim.Native.Nat.{_+_, _≤_};
 ghost use lib.ListN.{length, take};

@@ -1,8 +1,8 @@
 // What the calls share: a value worked out, and written.
-use schedule::traffic::verify_data;
 use session::record::Session;
 use sha2::running::finish;
 use suite::Suite;
+use traffic::verify_data;
 ghost use mathlib.Core.Path.{_≡_};
 ghost use Prim.Native.Nat.{_≤_};
 ghost use lib.ListN.{take};

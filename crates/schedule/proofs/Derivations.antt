@@ -58,10 +58,6 @@ small = every Small (omega arith) (omega arith) (omega arith) (omega arith) (ome
 module _ (suite : ℕ) where
   -- ---- what is shared
 
-  pub ready-is : (s : List ℕ) {h : ℕ} {k : Keyed} → h ≡ hashLen suite → k ≡ keyedOf suite (take h s) → k ≡ keyedOf suite
-      (take (hashLen suite) s)
-  ready-is s eh ek = ek ∙ ap (λ (n : ℕ). keyedOf suite (take n s)) eh
-
   pub derive-of : (k : Keyed) (name t : List ℕ) {h : ℕ} {r : List ℕ} → h ≡ hashLen suite → r ≡ labelBlock suite k name
       (take h t) h
       → r ≡ labelBlock suite k name (take (hashLen suite) t) (hashLen suite)

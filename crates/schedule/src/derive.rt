@@ -1,7 +1,7 @@
-// What every derivation shares: a secret prepared as a key, and Derive-Secret given the hash of the messages.
+// What every derivation shares: Derive-Secret given the hash of the messages.
 use hmac::Keyed;
-use hmac::prepare;
 use keyed::label_block;
+use keyed::ready;
 use oneshot::digest;
 use suite::Suite;
 ghost use mathlib.Core.Path.{_≡_};
@@ -11,13 +11,6 @@ ghost use Rattle.suite.specs.Suite.{hashLen};
 ghost use Rattle.sha2.specs.Hash.{hash};
 ghost use Rattle.hmac.specs.Keyed.{keyedOf};
 ghost use Rattle.keyed.specs.Blocks.{labelBlock};
-
-pub(crate) fn ready(suite: u16, secret: [u8; 48]) -> Keyed
-    ensures { λ r. ⌜ r ≡ keyedOf suite (take (hashLen suite) secret) ⌝ }
-{
-    let h = Suite::hash_len(suite);
-    prepare(suite, &secret[..h])
-}
 
 // H bytes under a label, over the hash of the messages.
 pub(crate) fn derive(suite: u16, k: Keyed, label: &[u8], transcript: [u8; 48]) -> [u8; 48]

@@ -3,4 +3,3 @@
 mod derive;
 pub mod exporter;
 pub mod secrets;
-pub mod traffic;

@@ -1,8 +1,8 @@
 // The secrets of RFC 8446, section 7.1. A key is prepared once for all that is derived from it.
 use super::derive::derive;
 use super::derive::over_nothing;
-use super::derive::ready;
 use keyed::extract_value;
+use keyed::ready;
 use suite::Suite;
 ghost use mathlib.Core.Path.{_≡_};
 ghost use mathlib.Core.List.{[]};

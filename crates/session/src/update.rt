@@ -3,7 +3,7 @@ use super::record::Outcome;
 use super::record::Session;
 use change_numbers::update_number;
 use refusal::Answer;
-use schedule::traffic::next_traffic_secret;
+use traffic::next_traffic_secret;
 ghost use mathlib.Core.Path.{_≡_};
 ghost use Rattle.book.specs.Call.{Call};
 ghost use Rattle.session.specs.Promise.{Done, plain};

@@ -1,7 +1,7 @@
 // What is made of a traffic secret: the next one (RFC 8446, section 7.2), key and IV (7.3), verify_data (4.4.4).
-use super::derive::ready;
 use hmac::mac;
 use keyed::label_block;
+use keyed::ready;
 use oneshot::digest;
 use suite::Suite;
 ghost use mathlib.Core.Path.{_≡_};

@@ -1,9 +1,9 @@
-use Rattle.schedule.proofs.Derivations.{ready-is}
+use Rattle.keyed.proofs.Prepared.{ready-is}
 use lib.ListN.{length-take}
 use native.Mathlib.Omega.{arith}
 use borrow.Author.Needs.{needs}
-use Rattle.schedule.proofs.derive.ready.Statement.{statement}
-use Rattle.schedule.proofs.derive.ready.Tie as tie
+use Rattle.keyed.proofs.ready.Statement.{statement}
+use Rattle.keyed.proofs.ready.Tie as tie
 
 slice-aggregate-prepare : tie.Need-slice-aggregate-prepare
 slice-aggregate-prepare c = simp length-take (omega arith)

@@ -1,8 +1,8 @@
 use Rattle.schedule.proofs.Derivations.{key-is, iv-is}
 use Rattle.schedule.specs.Labels.{key, iv}
 use borrow.Author.Needs.{needs}
-use Rattle.schedule.proofs.traffic.traffic_keys.Statement.{statement}
-use Rattle.schedule.proofs.traffic.traffic_keys.Tie as tie
+use Rattle.traffic.proofs.traffic_keys.Statement.{statement}
+use Rattle.traffic.proofs.traffic_keys.Tie as tie
 
 returns : tie.Need-returns
 unfolding key iv

@@ -1,7 +1,7 @@
 use Rattle.schedule.specs.Schedule.{within}
 use borrow.Author.Needs.{needs}
-use Rattle.schedule.proofs.traffic.messages_hash.Statement.{statement}
-use Rattle.schedule.proofs.traffic.messages_hash.Tie as tie
+use Rattle.traffic.proofs.messages_hash.Statement.{statement}
+use Rattle.traffic.proofs.messages_hash.Tie as tie
 
 returns : tie.Need-returns
 unfolding within

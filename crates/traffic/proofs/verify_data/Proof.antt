@@ -1,10 +1,10 @@
 use Rattle.schedule.proofs.Derivations.{verify-is}
 use Rattle.schedule.specs.Labels.{finished}
 use lib.ListN.{length-take}
 use native.Mathlib.Omega.{arith}
 use borrow.Author.Needs.{needs}
-use Rattle.schedule.proofs.traffic.verify_data.Statement.{statement}
-use Rattle.schedule.proofs.traffic.verify_data.Tie as tie
+use Rattle.traffic.proofs.verify_data.Statement.{statement}
+use Rattle.traffic.proofs.verify_data.Tie as tie
 
 slice-aggregate-mac : tie.Need-slice-aggregate-mac
 slice-aggregate-mac c = simp length-take (omega arith)

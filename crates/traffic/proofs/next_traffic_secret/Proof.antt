@@ -1,8 +1,8 @@
 use Rattle.schedule.proofs.Derivations.{update-is}
 use Rattle.schedule.specs.Labels.{trafficUpd}
 use borrow.Author.Needs.{needs}
-use Rattle.schedule.proofs.traffic.next_traffic_secret.Statement.{statement}
-use Rattle.schedule.proofs.traffic.next_traffic_secret.Tie as tie
+use Rattle.traffic.proofs.next_traffic_secret.Statement.{statement}
+use Rattle.traffic.proofs.next_traffic_secret.Tie as tie
 
 returns : tie.Need-returns
 unfolding trafficUpd
