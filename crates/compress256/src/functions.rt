@@ -88,14 +88,11 @@ pub fn round(s: [u32; 8], k: u32, w: u32) -> [u32; 8]
 pub fn sums(s: [u32; 8], x: [u32; 8]) -> [u32; 8]
     ensures { λ r. ⌜ r ≡ sums sha256 s x ⌝ }
 {
-    [
-        add(s[0], x[0]),
-        add(s[1], x[1]),
-        add(s[2], x[2]),
-        add(s[3], x[3]),
-        add(s[4], x[4]),
-        add(s[5], x[5]),
-        add(s[6], x[6]),
-        add(s[7], x[7]),
-    ]
+    let mut r = s;
+    let mut i: usize = 0;
+    while i < 8 {
+        r[i] = add(s[i], x[i]);
+        i += 1;
+    }
+    r
 }

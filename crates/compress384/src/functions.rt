@@ -88,14 +88,11 @@ pub fn round(s: [u64; 8], k: u64, w: u64) -> [u64; 8]
 pub fn sums(s: [u64; 8], x: [u64; 8]) -> [u64; 8]
     ensures { λ r. ⌜ r ≡ sums sha384 s x ⌝ }
 {
-    [
-        add(s[0], x[0]),
-        add(s[1], x[1]),
-        add(s[2], x[2]),
-        add(s[3], x[3]),
-        add(s[4], x[4]),
-        add(s[5], x[5]),
-        add(s[6], x[6]),
-        add(s[7], x[7]),
-    ]
+    let mut r = s;
+    let mut i: usize = 0;
+    while i < 8 {
+        r[i] = add(s[i], x[i]);
+        i += 1;
+    }
+    r
 }

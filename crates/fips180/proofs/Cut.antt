@@ -1,6 +1,6 @@
 -- A hash value's words are words of the variant's width already.
 use Prim.Native.Nat.{ℕ}
-use mathlib.Core.Path.{_≡_, refl}
+use mathlib.Core.Path.{_≡_}
 use mathlib.Core.List.{List}
 use native.Mathlib.Nat.{mod-mod}
 use Rattle.fips180.specs.Words.{plus}

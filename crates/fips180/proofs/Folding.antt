@@ -1,6 +1,6 @@
 -- Whole blocks, one after the other: the turns of the loop that takes them. Once for every variant.
 use Prim.Native.Nat.{ℕ, zero, suc, _+_, _-_, _*_, _/_, _≤_, _<_}
-use mathlib.Core.Path.{_≡_, refl, sym, ap, _∙_}
+use mathlib.Core.Path.{_≡_, sym, ap, _∙_}
 use mathlib.Core.List.{List}
 use native.Mathlib.Nat.{suc-mul, zero-mul, div-eq-of-lt}
 use native.Mathlib.Omega.{arith}

@@ -1,15 +1,14 @@
 -- Lengths, once for every variant: of numbers as bytes, of a padded message, and of a digest.
-use Prim.Native.Nat.{ℕ, zero, suc, _+_, _-_, _*_, _/_, _%_, _≤_, _<_, min}
-use mathlib.Core.Path.{_≡_, refl, sym, ap, _∙_}
-use mathlib.Core.List.{List, [], _∷_, _++_}
+use Prim.Native.Nat.{ℕ, zero, suc, _+_, _-_, _*_, _%_, _≤_, _<_}
+use mathlib.Core.Path.{_≡_, refl, ap}
+use mathlib.Core.List.{List}
 use native.Mathlib.Nat.{mod-lt}
 use native.Mathlib.Omega.{arith}
-use lib.ListN.{length, take, getD, length-append, length-take}
-use Rattle.buffer.specs.Buffer.{zeros}
+use lib.ListN.{length, length-append, length-take}
 use Rattle.buffer.proofs.Laws.{length-zeros}
 use Rattle.fips180.specs.Words.{bytesOf}
-use Rattle.fips180.specs.Variant.{Variant, sha256, sha384}
-use Rattle.fips180.specs.Padding.{zerosFor, padding, padded, blocks}
+use Rattle.fips180.specs.Variant.{Variant}
+use Rattle.fips180.specs.Padding.{zerosFor, padding, padded}
 use Rattle.fips180.specs.Hash.{digestOf, sha2}
 
 pub length-bytesOf : (n x : ℕ) → length (bytesOf n x) ≡ n

@@ -1,3 +1,4 @@
+pub mod Filling
 pub mod Schedule
 pub mod Rows
 pub mod Words

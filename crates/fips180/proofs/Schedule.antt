@@ -1,8 +1,7 @@
 -- Laws of a round and of the message schedule, once for every variant.
-use mathlib.Core.Path.{_≡_, refl, sym, ap, _∙_}
-use mathlib.Core.Logic.{⊎-elim}
-use mathlib.Core.List.{List, [], _∷_, _++_}
-use Prim.Native.Nat.{ℕ, zero, suc, _+_, _-_, _*_, _/_, _%_, _^_, _≤_, _<_}
+use mathlib.Core.Path.{_≡_, sym, _∙_}
+use mathlib.Core.List.{List, [], _∷_}
+use Prim.Native.Nat.{ℕ, zero, suc, _+_, _-_, _%_, _≤_, _<_}
 use native.Mathlib.Nat.{add-suc, add-zero}
 use native.Mathlib.Numerals.{add-one}
 use native.Mathlib.Decide.{decLe}
@@ -11,7 +10,7 @@ use lib.ListN.{length, getD, set, length-append, length-set, List·getD-append}
 use lib.Seq.{getD-set-same, getD-set-other, getD-at}
 use Rattle.fips180.specs.Words.{plus}
 use Rattle.fips180.specs.Variant.{Variant}
-use Rattle.fips180.specs.Hash.{t1, t2, round, rounds, sums, nextWord, schedule, W}
+use Rattle.fips180.specs.Hash.{t1, t2, round, rounds, nextWord, schedule, W}
 
 module _ (v : Variant) where
   -- a round, from its two sums
@@ -22,15 +21,6 @@ module _ (v : Variant) where
       → p ∷ getD s 0 0 ∷ getD s 1 0 ∷ getD s 2 0 ∷ q ∷ getD s 4 0 ∷ getD s 5 0 ∷ getD s 6 0 ∷ [] ≡ round v s k w
   unfolding round
   round-eq s k w ex ey ep eq = cc
-
-  pub sums-eq : (s x : List ℕ) {a b c d e f g h : ℕ}
-      → a ≡ plus (v .bits) (getD s 0 0) (getD x 0 0) → b ≡ plus (v .bits) (getD s 1 0) (getD x 1 0)
-      → c ≡ plus (v .bits) (getD s 2 0) (getD x 2 0) → d ≡ plus (v .bits) (getD s 3 0) (getD x 3 0)
-      → e ≡ plus (v .bits) (getD s 4 0) (getD x 4 0) → f ≡ plus (v .bits) (getD s 5 0) (getD x 5 0)
-      → g ≡ plus (v .bits) (getD s 6 0) (getD x 6 0) → h ≡ plus (v .bits) (getD s 7 0) (getD x 7 0)
-      → a ∷ b ∷ c ∷ d ∷ e ∷ f ∷ g ∷ h ∷ [] ≡ sums v s x
-  unfolding sums
-  sums-eq s x ea eb ec ed ee ef eg eh = cc
 
   module _ (m : List ℕ) (sixteen : length m ≡ 16) where
     pub length-schedule : (n : ℕ) → length (schedule v m n) ≡ 16 + n

@@ -1,7 +1,7 @@
 -- What the parts of the code compute: the compression sixteen rounds at a time, with sixteen words of the message
 -- schedule (`proofs/Rows` shows that this is the compression of Hash), whole blocks one after the other, and a digest
 -- in 48 bytes. A hash value's words are kept in 64 bits for both variants, and cut to the variant's width.
-use Prim.Native.Nat.{ℕ, zero, suc, _+_, _*_, _/_, _%_, _^_, _-_}
+use Prim.Native.Nat.{ℕ, zero, suc, _+_, _*_, _%_, _^_, _-_}
 use mathlib.Core.Bool.{cond}
 use mathlib.Core.List.{List, [], _∷_, _++_}
 use lib.ListN.{getD, set, take, drop}

@@ -29,32 +29,26 @@ fn load(b: &[u8]) -> [u32; 16]
 fn cut(s: [u64; 8]) -> [u32; 8]
     ensures { λ r. ⌜ r ≡ cut sha256 s ⌝ }
 {
-    [
-        (s[0] % 4294967296) as u32,
-        (s[1] % 4294967296) as u32,
-        (s[2] % 4294967296) as u32,
-        (s[3] % 4294967296) as u32,
-        (s[4] % 4294967296) as u32,
-        (s[5] % 4294967296) as u32,
-        (s[6] % 4294967296) as u32,
-        (s[7] % 4294967296) as u32,
-    ]
+    let mut r = [0u32; 8];
+    let mut i: usize = 0;
+    while i < 8 {
+        r[i] = (s[i] % 4294967296) as u32;
+        i += 1;
+    }
+    r
 }
 
 // The same eight words.
 fn widened(s: [u32; 8]) -> [u64; 8]
     ensures { λ r. ⌜ r ≡ s ⌝ }
 {
-    [
-        s[0] as u64,
-        s[1] as u64,
-        s[2] as u64,
-        s[3] as u64,
-        s[4] as u64,
-        s[5] as u64,
-        s[6] as u64,
-        s[7] as u64,
-    ]
+    let mut r = [0u64; 8];
+    let mut i: usize = 0;
+    while i < 8 {
+        r[i] = s[i] as u64;
+        i += 1;
+    }
+    r
 }
 
 // The hash value after all whole blocks of p, from the one before them.
