@@ -14,7 +14,7 @@ use Rattle.book.specs.Call.{Call}
 use Rattle.book.specs.Call.Call.{Begin, Feed, Early, Handshake, Application, Complete, Update, Close, Keys, Finished, Check, Binder, Export}
 use Rattle.book.specs.Messages.{typeOf, typeTaken, stageAfter, stageFrom, upTo, transcript}
 use Rattle.book.specs.Book.{Book, blankAt, stageOf, fedOf, note}
-use Rattle.book.specs.Refusals.{number, next, Reached}
+use Rattle.book.specs.Refusals.{number, Reached}
 use Rattle.book.specs.Refusals.Reached.{start, more}
 use Rattle.book.proofs.Accepted.{Taking, FeedTaken, begin-zero, feed-zero, early-zero, handshake-zero, application-zero, complete-zero, update-zero}
 use Rattle.book.proofs.Accepted.Taking.{at-early, at-handshake, at-application}

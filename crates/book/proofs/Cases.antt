@@ -5,7 +5,6 @@ use mathlib.Core.Path.{_≡_, refl}
 use Rattle.book.specs.Call.Call.{Handshake}
 use Rattle.book.specs.Groups.{knownGroup, groupBytes}
 use Rattle.book.specs.Book.{Book, blankAt, fresh, stageOf}
-use Rattle.book.specs.Messages.{stageFrom}
 use Rattle.book.specs.Refusals.{number, handshakeNumber}
 
 -- group 0 with one byte, with no PSK

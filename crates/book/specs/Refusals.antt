@@ -1,8 +1,9 @@
--- Document 01, "Refusal numbers": when a session call is refused, by its inputs and the book.
+-- Document 01, "Refusal numbers": when a session call is refused, by its inputs and the book, call by call as the code decides
+-- it (change_numbers, read_numbers). Table says the same row by row.
 use Prim.Native.Nat.{ℕ, _+_, _*_}
-use mathlib.Core.Bool.{Bool, true, false, cond, not, _&&_, _||_}
-use mathlib.Core.List.{List, [], _∷_}
-use lib.ListN.{length, getD}
+use mathlib.Core.Bool.{Bool, cond, not, _&&_, _||_}
+use mathlib.Core.List.{List}
+use lib.ListN.{length}
 use lib.Dec.{eqb, ltb, leb}
 use Rattle.suite.specs.Suite.{known, hashLen, keyLen, ivLen, maxLabel}
 use Rattle.book.specs.Call.{Call}
@@ -52,7 +53,7 @@ exportRange suite label context asked =
 abbrev pub maxUpdates : ℕ
 maxUpdates = 65535
 
--- The number of each call: that of the first test that holds, or 0. A code's decision reads as its definition here.
+-- The number of each call: that of the first test that holds, or 0.
 unfoldable pub beginNumber : ℕ → ℕ → ℕ → ℕ → ℕ
 beginNumber point suite kind psk =
     cond (not (eqb point fresh)) 1

@@ -1,4 +1,5 @@
-// The calls for programs in C and Rust: numbers and byte slices only, a slice as a pointer and a length.
+// Three lower calls for programs in C and Rust: numbers and byte slices only, a slice as a pointer and a length. The session's
+// calls are not exported.
 ghost use lib.ListN.{length};
 ghost use Rattle.sha2.specs.Hash.{hash, hashNumber};
 ghost use Rattle.hkdf.specs.Rfc5869.{expand};

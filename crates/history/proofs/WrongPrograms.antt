@@ -14,7 +14,6 @@ use Rattle.book.specs.Call.{Call}
 use Rattle.book.specs.Call.Call.{Begin}
 use Rattle.book.specs.Book.{blankAt, fresh, note}
 use Rattle.book.specs.Refusals.{number}
-use Rattle.session.specs.Session.{place}
 use Rattle.session.specs.Promise.{Reply}
 use Rattle.book.proofs.Accepted.{next-accepted}
 use Rattle.session.proofs.Fields.{chain-is}

@@ -1,13 +1,13 @@
 -- The lower calls: what a decision of 0 says, and what the calls answer.
-use Prim.Native.Nat.{ℕ, _+_, _*_, _≤_, _<_, _^_, min}
-use mathlib.Core.Path.{_≡_, refl, sym, ap, _∙_, subst}
-use mathlib.Core.Bool.{Bool, true, false, cond, not, _&&_, _||_}
+use Prim.Native.Nat.{ℕ, _+_, _*_, _≤_, min}
+use mathlib.Core.Path.{_≡_, sym, ap, _∙_, subst}
+use mathlib.Core.Bool.{cond, not, _&&_, _||_}
 use mathlib.Core.List.{List, [], _++_, append-nil}
 use native.Mathlib.Omega.{arith}
-use lib.ListN.{length, take, length-take}
+use lib.ListN.{length, take}
 use lib.Seq.{take-all}
 use lib.Dec.{eqb, leb, ltb}
-use borrow.Author.Tests.{ltb-false, leb-true, eqb-true, not-false}
+use borrow.Author.Tests.{ltb-false, leb-true, not-false}
 use Rattle.buffer.specs.Buffer.{placed, fronted, after}
 use Rattle.buffer.proofs.Laws.{after-front, take-placed}
 use Rattle.refusal.specs.declared.Answer.{Answer}
@@ -17,11 +17,9 @@ use Rattle.refusal.proofs.Laws.{passed, or-false, and-true, at-most, refused, d
 use Rattle.suite.specs.Suite.{known, hashLen, blockLen, maxLabel}
 use Rattle.sha2.specs.Hash.{hash, maxInput}
 use Rattle.sha2.proofs.Whole.{length-hash}
-use Rattle.hmac.specs.Rfc2104.{hmac}
-use Rattle.hkdf.specs.Rfc5869.{extract, expand, blocksFor, Ts}
+use Rattle.hkdf.specs.Rfc5869.{expand}
 use Rattle.hkdf.specs.Rfc8446.{expandLabel, deriveSecret, hkdfLabel, tls13}
-use Rattle.hkdf.specs.Refusals.{macNumber, expandNumber, expandLabelNumber, deriveSecretNumber, askable, labelled, maxMessage, maxInfo, maxContext, maxMessages}
-use Rattle.hmac.proofs.Prepared.{length-hmac}
+use Rattle.hkdf.specs.Refusals.{macNumber, expandNumber, expandLabelNumber, deriveSecretNumber, askable, labelled, maxMessage, maxInfo, maxContext}
 use Rattle.hkdf.proofs.Values.{length-expand}
 use Rattle.hkdf.proofs.Labels.{length-label, info-is}
 
@@ -117,21 +115,21 @@ module _ (suite secret label messages room : ℕ) where
   derive-small =
       at-most (not (known suite)) 13 2 _ (omega arith)
       (at-most (not (eqb secret (hashLen suite))) 13 4 _ (omega arith)
-      (at-most (ltb maxMessages messages) 13 9 _ (omega arith)
+      (at-most (ltb maxInput messages) 13 9 _ (omega arith)
       (at-most (not (labelled label)) 13 10 _ (omega arith)
       (at-most (ltb room (hashLen suite)) 13 11 0 (omega arith) (omega arith)))))
 
   pub derive-fits : {k : ℕ} → k ≡ deriveSecretNumber suite secret label messages room → k ≡ 0
-      → (label ≤ maxLabel) × (messages ≤ maxMessages) × (hashLen suite ≤ room)
+      → (label ≤ maxLabel) × (messages ≤ maxInput) × (hashLen suite ≤ room)
   unfolding deriveSecretNumber
   derive-fits h z =
       let a = passed (not (known suite)) 2 _ (λ i. omega arith) (sym h ∙ z) in
       let b = passed (not (eqb secret (hashLen suite))) 4 _ (λ i. omega arith) (a .1) in
-      let c = passed (ltb maxMessages messages) 9 _ (λ i. omega arith) (b .1) in
+      let c = passed (ltb maxInput messages) 9 _ (λ i. omega arith) (b .1) in
       let d = passed (not (labelled label)) 10 _ (λ i. omega arith) (c .1) in
       let e = passed (ltb room (hashLen suite)) 11 0 (λ i. omega arith) (d .1) in
       let l = and-true (leb 1 label) (leb label maxLabel) (not-false (labelled label) (d .0)) in
-      (leb-true label maxLabel (l .1), ltb-false maxMessages messages (c .0), ltb-false room (hashLen suite) (e .0))
+      (leb-true label maxLabel (l .1), ltb-false maxInput messages (c .0), ltb-false room (hashLen suite) (e .0))
 
 -- what the code of Expand-Label and of Derive-Secret leaves in the output
 pub label-is : (suite : ℕ) (secret label context : List ℕ) (asked : ℕ) (zs out : List ℕ) {size : ℕ} {info after′ : List ℕ}
@@ -146,7 +144,7 @@ unfolding expandLabel
 length-expandLabel suite secret label context asked = length-expand suite secret _ asked
 
 -- a digest of what is within the limit
-pub uncut : (suite : ℕ) (m : List ℕ) {d : List ℕ} → length m ≤ maxMessages → d ≡ placed (hash suite (take maxInput m)) → d ≡ placed (hash suite m)
+pub uncut : (suite : ℕ) (m : List ℕ) {d : List ℕ} → length m ≤ maxInput → d ≡ placed (hash suite (take maxInput m)) → d ≡ placed (hash suite m)
 uncut suite m h e = e ∙ ap (λ (x : List ℕ). placed (hash suite x)) (take-all maxInput m h)
 
 pub derive-is : (suite h : ℕ) (secret label messages zs out : List ℕ) {size : ℕ} {d info after′ : List ℕ} → h ≡ hashLen suite

@@ -1,16 +1,15 @@
 -- The edges of the lower calls: worked labels, blocks at the edge of one, and the longest output.
 use Prim.Native.Nat.{ℕ, _+_, _*_, _≤_, _<_}
-use mathlib.Core.Path.{_≡_, refl, sym, ap, _∙_}
-use mathlib.Core.Bool.{Bool, true, false, not, cond, _&&_, _||_}
-use mathlib.Core.List.{List, [], _∷_, _++_}
+use mathlib.Core.Path.{_≡_, refl}
+use mathlib.Core.Bool.{true}
+use mathlib.Core.List.{List, [], _∷_}
 use native.Mathlib.Omega.{arith}
 use lib.ListN.{length}
-use lib.Dec.{eqb, leb, ltb}
 use borrow.Author.Tests.{le-leb, lt-leb, le-ltb, eq-eqb}
 use Rattle.suite.specs.Suite.{known, hashLen, blockLen, maxLabel}
 use Rattle.hkdf.specs.Rfc5869.{blocksFor}
 use Rattle.hkdf.specs.Rfc8446.{tls13, hkdfLabel}
-use Rattle.hkdf.specs.Refusals.{expandNumber, expandLabelNumber, askable, labelled, maxInfo, maxContext}
+use Rattle.hkdf.specs.Refusals.{expandNumber, expandLabelNumber, maxInfo, maxContext}
 use Rattle.hkdf.proofs.Labels.{length-label}
 
 pub key-label : hkdfLabel tls13 16 (0x6b ∷ 0x65 ∷ 0x79 ∷ []) []

@@ -1,5 +1,5 @@
 -- Lengths of the values.
-use Prim.Native.Nat.{ℕ, zero, suc, _+_, _-_, _*_, _/_, _≤_, _<_}
+use Prim.Native.Nat.{ℕ, zero, suc, _+_, _-_, _*_, _≤_, _<_}
 use mathlib.Core.Path.{_≡_, _∙_}
 use mathlib.Core.List.{List}
 use native.Mathlib.Omega.{arith}
@@ -7,7 +7,7 @@ use native.Mathlib.Nat.{suc-mul, mod-lt, div-add-mod'}
 use lib.ListN.{length, length-append}
 use lib.Seq.{length-take-le}
 use Rattle.suite.specs.declared.Suite.{Suite}
-use Rattle.suite.specs.Suite.{hashLen, suiteOf}
+use Rattle.suite.specs.Suite.{hashLen}
 use Rattle.suite.proofs.Laws.{every}
 use Rattle.hmac.proofs.Prepared.{length-hmac}
 use Rattle.hkdf.specs.Rfc5869.{blocksFor, T, Ts, expand}

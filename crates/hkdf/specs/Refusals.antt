@@ -3,8 +3,10 @@ use Prim.Native.Nat.{ℕ, _*_}
 use mathlib.Core.Bool.{Bool, cond, not, _&&_, _||_}
 use lib.Dec.{eqb, leb, ltb}
 use Rattle.suite.specs.Suite.{known, hashLen, blockLen, maxLabel}
+use Rattle.sha2.specs.Hash.{maxInput}
 
--- limits
+-- limits: of an HMAC message and an Extract input, of the info of Expand, of the context of Expand-Label; the messages of
+-- Derive-Secret are a hash input
 abbrev pub maxMessage : ℕ
 maxMessage = 1048576
 
@@ -13,9 +15,6 @@ maxInfo = 1024
 
 abbrev pub maxContext : ℕ
 maxContext = 255
-
-abbrev pub maxMessages : ℕ
-maxMessages = 2097152
 
 -- HMAC and Extract: key or salt, message or input, and room for H bytes
 unfoldable pub macNumber : ℕ → ℕ → ℕ → ℕ → ℕ
@@ -50,6 +49,6 @@ unfoldable pub deriveSecretNumber : ℕ → ℕ → ℕ → ℕ → ℕ → ℕ
 deriveSecretNumber suite secret label messages room =
     cond (not (known suite)) 2
     (cond (not (eqb secret (hashLen suite))) 4
-    (cond (ltb maxMessages messages) 9
+    (cond (ltb maxInput messages) 9
     (cond (not (labelled label)) 10
     (cond (ltb room (hashLen suite)) 11 0))))

@@ -1,12 +1,12 @@
 -- Laws of HMAC's pads.
-use Prim.Native.Nat.{ℕ, zero, suc, _+_, _-_, _*_, _≤_, _<_, _^_, min}
+use Prim.Native.Nat.{ℕ, zero, suc, _+_, _-_, _≤_, _<_, min}
 use mathlib.Core.Path.{_≡_, refl, sym, ap, _∙_}
 use mathlib.Core.List.{List, [], _∷_, _++_, map, append-nil}
 use native.Mathlib.Numerals.{add-one}
 use native.Mathlib.Decide.{decLe}
 use native.Mathlib.Omega.{arith}
 use lib.Bits.{bitXor}
-use lib.ListN.{length, getD, take, drop, set, length-append, length-take, length-map, List·getD-map}
+use lib.ListN.{length, getD, take, set, length-append, length-map, List·getD-map}
 use lib.Seq.{length-take-le, take-all, take-append-le, take-append-add, take-suc, take-suc-set}
 use Rattle.buffer.specs.Buffer.{zeros, fronted, after}
 use Rattle.buffer.proofs.Laws.{length-zeros, take-zeros, drop-zeros, after-front, zeros-none}

@@ -1,7 +1,7 @@
 -- RFC 2104: HMAC, over the hash of a suite.
-use Prim.Native.Nat.{ℕ, _-_}
+use Prim.Native.Nat.{ℕ}
 use mathlib.Core.List.{List, _++_, map}
-use lib.ListN.{length, take}
+use lib.ListN.{take}
 use lib.Bits.{bitXor}
 use Rattle.buffer.specs.Buffer.{zeros}
 use Rattle.suite.specs.Suite.{blockLen}

@@ -21,7 +21,7 @@ ghost use Rattle.hkdf.specs.Rfc8446.{tls13, hkdfLabel};
 ghost use Rattle.hkdf.specs.Refusals.{maxMessage};
 ghost use Rattle.keyed.specs.Blocks.{labelBlock};
 
-// A secret in its place of 48 bytes, prepared as a key.
+// A secret in its place of 48 bytes, as a prepared key.
 pub fn ready(suite: u16, secret: [u8; 48]) -> Keyed
     ensures { λ r. ⌜ r ≡ keyedOf suite (take (hashLen suite) secret) ⌝ }
 {

@@ -7,7 +7,8 @@ use Rattle.suite.specs.Suite.{known, hashLen}
 use Rattle.sha2.proofs.Padded.{pads-55, pads-56, pads-111, pads-112}
 use Rattle.hkdf.proofs.Limits.{key-label, iv-label, label-long, blocks-12, blocks-32, blocks-33, expand-allowed, expand-refused, label-allowed, label-refused}
 use Rattle.book.proofs.Cases.{one-byte-of-no-group, handshake-when-fresh}
-use Rattle.marked.specs.Marked.{Marked, Longest, finished, derived}
+use Rattle.schedule.specs.Labels.{finished, derived}
+use Rattle.marked.specs.Marked.{Marked, Longest}
 
 -- 255 blocks are the most
 longest : (n suite : ℕ) → 1 ≤ n → known suite ≡ true → 255 * hashLen suite ≡ n → Longest suite n

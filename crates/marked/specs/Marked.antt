@@ -10,22 +10,10 @@ use Rattle.fips180.specs.Padding.{padded, blocks}
 use Rattle.hkdf.specs.Rfc5869.{blocksFor}
 use Rattle.hkdf.specs.Rfc8446.{tls13, hkdfLabel}
 use Rattle.hkdf.specs.Refusals.{expandNumber, expandLabelNumber}
+use Rattle.schedule.specs.Labels.{key, iv, finished, derived}
 use Rattle.book.specs.Call.Call.{Handshake}
 use Rattle.book.specs.Book.{Book, fresh, early, blankAt, stageOf}
 use Rattle.book.specs.Refusals.{number, Reached}
-
--- "key", "iv", "finished", "derived"
-abbrev pub key : List ℕ
-key = 0x6b ∷ 0x65 ∷ 0x79 ∷ []
-
-abbrev pub iv : List ℕ
-iv = 0x69 ∷ 0x76 ∷ []
-
-abbrev pub finished : List ℕ
-finished = 0x66 ∷ 0x69 ∷ 0x6e ∷ 0x69 ∷ 0x73 ∷ 0x68 ∷ 0x65 ∷ 0x64 ∷ []
-
-abbrev pub derived : List ℕ
-derived = 0x64 ∷ 0x65 ∷ 0x72 ∷ 0x69 ∷ 0x76 ∷ 0x65 ∷ 0x64 ∷ []
 
 -- n bytes are allowed and one more is refused 10, by Expand and by Expand-Label, with everything else in range
 pub record Longest (suite n : ℕ) : Type 0 where

@@ -1,4 +1,4 @@
-// The session where it lies: the calls that a long-lived session takes, on the record that the caller holds.
+// The session where it lies: the two calls that change the record that a modem keeps for as long as its link is up.
 use refusal::Answer;
 use session::record::Session;
 ghost use mathlib.Core.Path.{_≡_};

@@ -10,7 +10,7 @@ use Rattle.sha2.specs.Running.{finished}
 use Rattle.schedule.specs.Schedule.{verifyData}
 use Rattle.session.specs.declared.record.Session.{Session}
 
--- Keys: 1 client early, 2 client handshake, 3 server handshake, 4 client application, 5 server application
+-- the traffic secret that Keys names
 abbrev pub namedPlace : Session → ℕ → List ℕ
 namedPlace s name =
     cond (eqb name 1) (s .«client_early»)

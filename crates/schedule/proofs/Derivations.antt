@@ -149,7 +149,7 @@ module _ (suite : ℕ) where
       (hash suite []) (hashLen suite)
       → r ≡ placed (extract suite (take (hashLen suite) salt) (orZeros suite input)) → r ≡ placed
       (nextSecret suite secret input)
-  unfolding nextSecret derived
+  unfolding nextSecret
   next-is secret input {salt} es er =
       let e = nothing-is secret derived (omega arith) es in
       let d = deriveSecret suite secret derived [] in
@@ -174,26 +174,26 @@ module _ (suite : ℕ) where
   pub key-is : (secret : List ℕ) {k : Keyed} {n : ℕ} {r : List ℕ} → k ≡ keyedOf suite secret → n ≡ keyLen suite → r ≡ labelBlock
       suite k key [] n
       → r ≡ placed (writeKey suite secret)
-  unfolding writeKey key
+  unfolding writeKey
   key-is secret ek en er = alone-is secret key (keyLen suite) (omega arith) (small suite .key-some) (small suite .key-most) ek
       en er
 
   pub iv-is : (secret : List ℕ) {k : Keyed} {n : ℕ} {r : List ℕ} → k ≡ keyedOf suite secret → n ≡ ivLen suite → r ≡ labelBlock
       suite k iv [] n
       → r ≡ placed (writeIv suite secret)
-  unfolding writeIv iv
+  unfolding writeIv
   iv-is secret ek en er = alone-is secret iv (ivLen suite) (omega arith) (small suite .iv-some) (small suite .iv-most) ek en er
 
   pub update-is : (secret : List ℕ) {k : Keyed} {h : ℕ} {r : List ℕ} → k ≡ keyedOf suite secret → h ≡ hashLen suite
       → r ≡ labelBlock suite k trafficUpd [] h → r ≡ placed (nextTrafficSecret suite secret)
-  unfolding nextTrafficSecret trafficUpd
+  unfolding nextTrafficSecret
   update-is secret ek eh er = alone-is secret trafficUpd (hashLen suite) (omega arith) (some-hash suite) (omega arith) ek eh er
 
   pub verify-is : (base t : List ℕ) {k f : Keyed} {h : ℕ} {g r : List ℕ} → h ≡ hashLen suite → k ≡ keyedOf suite base
       → g ≡ labelBlock suite k finished [] h → f ≡ keyedOf suite (take (hashLen suite) g) → r ≡ macOf suite f
       (take h t ++ ([] ++ []))
       → r ≡ placed (verifyData suite base (take (hashLen suite) t))
-  unfolding verifyData finished
+  unfolding verifyData
   verify-is base t {k} {f} {h} {g} eh ek eg ef er =
       let w = bounded suite .hash in
       let x = expandLabel suite base finished [] (hashLen suite) in

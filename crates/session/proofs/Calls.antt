@@ -1,7 +1,7 @@
 -- What a call did, from what its code did: one law for every refusal, one for every acceptance.
-use Prim.Native.Nat.{ℕ, _+_, _-_, _≤_, min, zero-le}
+use Prim.Native.Nat.{ℕ, _-_, _≤_, min, zero-le}
 use mathlib.Core.Bool.{Bool, false, cond}
-use mathlib.Core.List.{List, [], _++_}
+use mathlib.Core.List.{List, []}
 use mathlib.Core.Path.{_≡_, refl, sym, ap, _∙_, subst}
 use native.Mathlib.Nat.{le-antisymm}
 use native.Mathlib.Omega.{arith}
@@ -15,7 +15,7 @@ use Rattle.refusal.specs.Refusal as Refusal
 use Rattle.session.specs.declared.record.Session.{Session}
 use Rattle.book.specs.Call.{Call, lent}
 use Rattle.book.specs.Book.{Book, note}
-use Rattle.book.specs.Refusals.{number, next, Reached}
+use Rattle.book.specs.Refusals.{number, Reached}
 use Rattle.session.specs.Values.{written, verdict}
 use Rattle.session.specs.Session.{sessionOf}
 use Rattle.session.specs.Promise.{Reply, reply, Done, plain}

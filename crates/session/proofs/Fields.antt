@@ -1,10 +1,8 @@
 -- The fields of a session that a book describes, at a known point.
 use Prim.Native.Nat.{ℕ}
-use mathlib.Core.Bool.{Bool, cond, _&&_}
-use mathlib.Core.List.{List}
+use mathlib.Core.Bool.{cond, _&&_}
 use mathlib.Core.Path.{_≡_, refl, ap, _∙_}
 use lib.Dec.{eqb, leb}
-use Rattle.sha2.specs.declared.running.Running.{Running}
 use Rattle.sha2.specs.Variants.{variantOf}
 use Rattle.sha2.specs.Running.{runningOf}
 use Rattle.schedule.specs.Labels.{binderOf}

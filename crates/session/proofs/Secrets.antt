@@ -1,8 +1,8 @@
 -- The secrets that the code derives are the book's.
-use Prim.Native.Nat.{ℕ, suc, _≤_, _<_, _^_}
+use Prim.Native.Nat.{ℕ, _≤_, _<_, _^_}
 use mathlib.Core.Bool.{Bool, true, false, cond, _&&_}
 use mathlib.Core.List.{List, []}
-use mathlib.Core.Path.{_≡_, refl, sym, ap, _∙_}
+use mathlib.Core.Path.{_≡_, sym, ap, _∙_}
 use native.Mathlib.Omega.{arith}
 use lib.Dec.{eqb, leb}
 use lib.ListN.{length, take}
@@ -19,7 +19,7 @@ use Rattle.hkdf.proofs.Calls.{length-deriveSecret}
 use Rattle.schedule.specs.Labels.{Secret, label, binderOf}
 use Rattle.schedule.specs.Labels.Secret.{binder-external, binder-resumption, client-application, server-application}
 use Rattle.schedule.specs.Diagram.{from, until}
-use Rattle.schedule.specs.Schedule.{fromHash, nextTrafficSecret, updated}
+use Rattle.schedule.specs.Schedule.{fromHash, nextTrafficSecret}
 use Rattle.schedule.proofs.Laws.{from-hash, length-early, length-handshake, length-master, length-updated}
 use Rattle.session.specs.declared.record.Session.{Session}
 use Rattle.book.specs.Messages.{upTo, transcript}

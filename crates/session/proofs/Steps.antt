@@ -1,5 +1,5 @@
 -- The session after each accepted call but Feed is that of the book with the call noted.
-use Prim.Native.Nat.{ℕ, zero, suc, _+_, _≤_, _<_, _^_}
+use Prim.Native.Nat.{ℕ, zero, _+_, _≤_}
 use mathlib.Core.Bool.{Bool, true, false, cond, not, _&&_}
 use mathlib.Core.List.{List, []}
 use mathlib.Core.Path.{_≡_, refl, sym, ap, _∙_}
@@ -17,21 +17,21 @@ use Rattle.sha2.specs.Running.{start, finished}
 use Rattle.sha2.proofs.Suites.{started}
 use Rattle.hkdf.specs.Refusals.{maxMessage}
 use Rattle.hkdf.specs.Rfc8446.{deriveSecret}
-use Rattle.schedule.specs.Labels.{Secret, label, binderOf}
+use Rattle.schedule.specs.Labels.{label, binderOf}
 use Rattle.schedule.specs.Labels.Secret.{client-early, early-exporter, client-handshake, server-handshake, client-application, server-application, exporter, resumption}
 use Rattle.schedule.specs.Diagram.{from, until}
 use Rattle.schedule.specs.Schedule.{within, earlySecret, handshakeSecret, masterSecret, fromHash, nextTrafficSecret, updated}
 use Rattle.schedule.proofs.Laws.{within-limit}
 use Rattle.session.specs.declared.record.Session.{Session}
 use Rattle.book.specs.Call.Call.{Begin, Early, Handshake, Application, Complete, Update, Close}
-use Rattle.book.specs.Messages.{stageFrom, upTo, transcript}
-use Rattle.book.specs.Book.{Book, blankAt, stageOf, fedOf, note}
+use Rattle.book.specs.Messages.{stageFrom, transcript}
+use Rattle.book.specs.Book.{Book, blankAt, stageOf, note}
 use Rattle.book.specs.Held.{binderHeld, applicationHeld}
-use Rattle.session.specs.Values.{earlySecretOf, handshakeSecretOf, masterSecretOf, chainOf, secretOf, clientApplication, serverApplication, transcriptHash}
+use Rattle.session.specs.Values.{earlySecretOf, handshakeSecretOf, masterSecretOf, chainOf, secretOf, clientApplication, serverApplication}
 use Rattle.session.specs.Session.{place, chainAt, sessionOf}
 use Rattle.book.proofs.Books.{Good}
 use Rattle.session.proofs.Secrets.{binder-secret, hash-of, derived-place, moved-place, early-of, handshake-of, master-of, length-clientApplication, length-serverApplication}
-use Rattle.session.proofs.Fields.{same-session, suite-is, kind-is, ran-is, point-is, stage-is, client-updates-is, server-updates-is, transcript-at, chain-at, binder-key-at, client-early-at, early-exporter-at, client-handshake-at, server-handshake-at, client-application-at, server-application-at, exporter-at, resumption-at}
+use Rattle.session.proofs.Fields.{same-session, suite-is, kind-is, ran-is, stage-is, client-updates-is, server-updates-is, transcript-at, chain-at, binder-key-at, client-early-at, early-exporter-at, client-handshake-at, server-handshake-at, client-application-at, server-application-at, exporter-at, resumption-at}
 
 begun-binder : (b : Book) (suite kind : ℕ) (psk : List ℕ) {chain : List ℕ} → chain ≡ placed (earlySecret suite psk)
     → deriveSecret suite (take (hashLen suite) chain) (label (binderOf kind)) [] ≡ secretOf (binderOf kind)

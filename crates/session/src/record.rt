@@ -8,7 +8,8 @@ ghost use Rattle.book.specs.Book.{blankAt, fresh};
 ghost use Rattle.session.specs.Session.{blankRunning, sessionOf};
 
 // Numbers and arrays only, so that every bit pattern is a session; and no padding, so that two sessions with equal fields are
-// equal in every byte. Each secret lies in 48 bytes with zeros behind it.
+// equal in every byte. Each secret lies in 48 bytes with zeros behind it. kind is the PSK's, early is 1 once Early was
+// accepted, stage is how far the messages have come (book::points), transcript the running hash of the messages fed.
 pub struct Session {
     pub suite: u16,
     pub kind: u8,

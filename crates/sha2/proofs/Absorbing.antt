@@ -1,13 +1,13 @@
 -- Laws of absorbing, once for every variant: in parts, within a block, and whole blocks straight from the input.
 use Prim.Native.Nat.{ℕ, zero, suc, _+_, _-_, _*_, _/_, _%_, _^_, _≤_, _<_}
 use mathlib.Core.Path.{_≡_, refl, sym, ap, _∙_}
-use mathlib.Core.List.{List, [], _∷_, _++_, append-nil, append-assoc}
+use mathlib.Core.List.{List, [], _∷_, _++_, append-assoc}
 use native.Mathlib.Nat.{one-mul, add-zero, add-mul, suc-mul, zero-mul, mod-lt, div-add-mod'}
 use native.Mathlib.Numerals.{add-one}
 use native.Mathlib.Omega.{arith}
 use lib.Arith.{digits-mod, mod-mul}
-use lib.ListN.{length, getD, take, drop, set, length-set, length-take, length-drop, length-append, take-append-drop, drop-of-length-le}
-use lib.Seq.{length-take-le, take-all, take-suc, drop-cons, set-split, take-add, take-at, take-set-le, drop-set-lt, drop-drop, take-suc-set, append-snoc, set-at, take-length}
+use lib.ListN.{length, getD, take, drop, set, length-set, length-drop, length-append, take-append-drop}
+use lib.Seq.{length-take-le, take-suc, drop-cons, take-add, take-at, drop-set-lt, take-suc-set, append-snoc, set-at, take-length}
 use borrow.Author.Tests.{eq-eqb, ne-eqb}
 use Rattle.buffer.specs.Buffer.{zeros, overwrite}
 use Rattle.buffer.proofs.Laws.{length-zeros}

@@ -10,16 +10,15 @@ use lib.Arith.{digits-div, digits-mod}
 use lib.ListN.{length, take, drop, set, length-append, length-drop, drop-of-length-le}
 use lib.Seq.{take-append-le, drop-append-le, drop-nil, set-at, take-at, append-snoc}
 use Rattle.buffer.specs.Buffer.{zeros, placed}
-use Rattle.buffer.proofs.Laws.{length-zeros, zeros-more, placed-is}
-use Rattle.fips180.specs.Words.{bytesOf}
+use Rattle.buffer.proofs.Laws.{zeros-more, placed-is}
 use Rattle.fips180.specs.Variant.{Variant}
 use Rattle.fips180.specs.Padding.{zerosFor, padding, padded, blocks, blockAt, wordsOf}
-use Rattle.fips180.specs.Hash.{compress, hashValue, digestOf, sha2}
+use Rattle.fips180.specs.Hash.{hashValue, digestOf, sha2}
 use Rattle.fips180.specs.Rows.{cut, digestIn48}
 use Rattle.fips180.proofs.Cut.{cut-compress}
 use Rattle.fips180.proofs.Lengths.{length-padding, few-zeros, length-sha2}
 use Rattle.sha2.specs.declared.running.Running.{Running}
-use Rattle.sha2.specs.Running.{run, start, step, absorbed, finished, runningOf}
+use Rattle.sha2.specs.Running.{start, step, absorbed, finished, runningOf}
 use Rattle.sha2.proofs.Sound.{Sound, positive}
 use Rattle.sha2.proofs.Absorbing.{absorbed-append, step-full, step-part}
 

@@ -1,7 +1,7 @@
 -- The end of a message as the code lays it out: once for every variant.
-use Prim.Native.Nat.{ℕ, zero, suc, _+_, _-_, _*_, _/_, _%_, _^_, _≤_, _<_}
-use mathlib.Core.Path.{_≡_, refl, sym, ap, _∙_}
-use mathlib.Core.List.{List, [], _∷_, _++_, append-assoc}
+use Prim.Native.Nat.{ℕ, suc, _+_, _-_, _*_, _/_, _%_, _^_, _≤_, _<_}
+use mathlib.Core.Path.{_≡_, sym, ap, _∙_}
+use mathlib.Core.List.{List, _∷_, _++_, append-assoc}
 use native.Mathlib.Nat.{mod-lt}
 use native.Mathlib.Omega.{arith}
 use lib.ListN.{length, take, drop, set, length-append}
@@ -17,7 +17,7 @@ use Rattle.fips180.proofs.Folding.{fold-one}
 use Rattle.fips180.proofs.Words.{bytes-wide}
 use Rattle.fips180.proofs.Lengths.{length-bytesOf}
 use Rattle.sha2.specs.declared.running.Running.{Running}
-use Rattle.sha2.specs.Running.{run, absorbed, finished}
+use Rattle.sha2.specs.Running.{absorbed, finished}
 use Rattle.sha2.proofs.Sound.{Sound, positive}
 use Rattle.sha2.proofs.Absorbing.{absorbed-append, full-absorbed, block-absorbed, full-after}
 

@@ -1,18 +1,15 @@
 -- Absorbing as the code does it: what completes a block, whole blocks, what is left. Once for every variant.
-use Prim.Native.Nat.{ℕ, zero, suc, _+_, _-_, _*_, _/_, _%_, _^_, _≤_, _<_, min}
-use mathlib.Core.Path.{_≡_, refl, sym, ap, _∙_}
-use mathlib.Core.List.{List, [], _∷_, _++_}
-use native.Mathlib.Nat.{suc-mul, zero-mul, mod-lt, div-add-mod'}
-use native.Mathlib.Numerals.{add-one}
+use Prim.Native.Nat.{ℕ, _+_, _-_, _*_, _/_, _%_, _^_, _≤_, _<_, min}
+use mathlib.Core.Path.{_≡_, sym, ap, _∙_}
+use mathlib.Core.List.{List}
+use native.Mathlib.Nat.{mod-lt, div-add-mod'}
 use native.Mathlib.Omega.{arith}
-use lib.Arith.{digits-div}
 use lib.ListN.{length, take, drop, length-drop, take-append-drop}
-use lib.Seq.{length-take-le, take-all, take-add}
-use borrow.Author.Tests.{eq-eqb}
+use lib.Seq.{length-take-le, take-all}
 use Rattle.buffer.specs.Buffer.{zeros, overwrite, after}
 use Rattle.buffer.proofs.Laws.{after-fits, length-overwrite, length-zeros}
 use Rattle.fips180.specs.Variant.{Variant}
-use Rattle.fips180.specs.Padding.{blockAt, wordsOf}
+use Rattle.fips180.specs.Padding.{wordsOf}
 use Rattle.fips180.specs.Hash.{compress}
 use Rattle.fips180.specs.Rows.{cut, folded}
 use Rattle.fips180.proofs.Folding.{fold-one}

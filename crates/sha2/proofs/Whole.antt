@@ -1,21 +1,20 @@
 -- The call that hashes a whole input: refused and accepted.
 use Prim.Native.Nat.{ℕ, _≤_, _<_, _^_, min}
-use mathlib.Core.Path.{_≡_, refl, sym, ap, _∙_, subst}
-use mathlib.Core.Bool.{Bool, true, false, cond, not}
-use mathlib.Core.List.{List, [], _∷_, _++_}
+use mathlib.Core.Path.{_≡_, sym, ap, _∙_, subst}
+use mathlib.Core.Bool.{cond, not}
+use mathlib.Core.List.{List}
 use native.Mathlib.Omega.{arith}
 use lib.ListN.{length, take, length-take}
 use lib.Seq.{take-all}
 use lib.Dec.{eqb, ltb}
 use borrow.Author.Tests.{ltb-false}
-use Rattle.buffer.specs.Buffer.{placed, fronted, after}
+use Rattle.buffer.specs.Buffer.{placed, after}
 use Rattle.buffer.proofs.Laws.{after-front, take-placed, take-least}
 use Rattle.refusal.specs.declared.Answer.{Answer}
 use Rattle.refusal.specs.Refusal.{number, count}
 use Rattle.refusal.specs.Answered.{Answered}
 use Rattle.refusal.proofs.Laws.{passed, at-most, refused, done}
 use Rattle.suite.specs.Suite.{known, hashLen}
-use Rattle.fips180.specs.Hash.{sha2}
 use Rattle.fips180.proofs.Lengths.{length-sha2}
 use Rattle.sha2.specs.declared.running.Running.{Running}
 use Rattle.sha2.specs.Variants.{variantOf}

@@ -25,7 +25,7 @@ pub fn hex_value(c: u8) -> u8
 }
 
 // The lower-case hex digit of n % 16.
-pub fn hex_digit(n: u8) -> u8
+fn hex_digit(n: u8) -> u8
     ensures { λ r. ⌜ r ≡ hexDigit n ⌝ }
 {
     let d = n % 16;

@@ -1,11 +1,9 @@
 use Rattle.schedule.proofs.Derivations.{update-is}
-use Rattle.schedule.specs.Labels.{trafficUpd}
 use borrow.Author.Needs.{needs}
 use Rattle.traffic.proofs.next_traffic_secret.Statement.{statement}
 use Rattle.traffic.proofs.next_traffic_secret.Tie as tie
 
 returns : tie.Need-returns
-unfolding trafficUpd
 returns c = update-is _ _ (c .before .before .before .ready .ensures) (c .before .before .before .before .hash-len .ensures .0)
     (c .label-block .ensures)
 

@@ -1,11 +1,9 @@
 use Rattle.schedule.proofs.Derivations.{key-is, iv-is}
-use Rattle.schedule.specs.Labels.{key, iv}
 use borrow.Author.Needs.{needs}
 use Rattle.traffic.proofs.traffic_keys.Statement.{statement}
 use Rattle.traffic.proofs.traffic_keys.Tie as tie
 
 returns : tie.Need-returns
-unfolding key iv
 returns c =
     let k = c .before .before .before .before .before .before .before .before .ready .ensures in (
       key-is _ _ k (c .before .before .before .before .before .key-len .ensures .0)

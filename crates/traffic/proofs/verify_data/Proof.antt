@@ -1,5 +1,4 @@
 use Rattle.schedule.proofs.Derivations.{verify-is}
-use Rattle.schedule.specs.Labels.{finished}
 use lib.ListN.{length-take}
 use native.Mathlib.Omega.{arith}
 use borrow.Author.Needs.{needs}
@@ -10,7 +9,6 @@ slice-aggregate-mac : tie.Need-slice-aggregate-mac
 slice-aggregate-mac c = simp length-take (omega arith)
 
 returns : tie.Need-returns
-unfolding finished
 returns c =
     verify-is _ _ _ (c .before .before .before .before .before .before .before .before .before .hash-len .ensures .0)
     (c .before .before .before .before .before .before .before .before .ready .ensures)

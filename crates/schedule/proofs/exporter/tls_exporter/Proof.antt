@@ -1,6 +1,5 @@
 use Rattle.schedule.specs.Schedule.{within}
 use Rattle.schedule.proofs.Derivations.{export-is}
-use Rattle.schedule.specs.Labels.{exporting}
 use denote.Ref.{now}
 use lib.ListN.{length-take}
 use native.Mathlib.Omega.{arith}
@@ -18,7 +17,7 @@ slice-aggregate-expand-label-3 : tie.Need-slice-aggregate-expand-label-3
 slice-aggregate-expand-label-3 c = simp length-take (omega arith)
 
 returns : tie.Need-returns
-unfolding within exporting
+unfolding within
 returns c =
     let a = c .before .before .before .before .before .before .before .before .before .before .before .before .before .before .before .args in
     export-is _ _ (now (a .label)) (now (a .context)) (now (a .out)) (a .asked)

@@ -1,11 +1,9 @@
 use Rattle.schedule.proofs.Derivations.{next-is}
-use Rattle.schedule.specs.Labels.{derived}
 use borrow.Author.Needs.{needs}
 use Rattle.schedule.proofs.secrets.next_secret.Statement.{statement}
 use Rattle.schedule.proofs.secrets.next_secret.Tie as tie
 
 returns : tie.Need-returns
-unfolding derived
 returns c = next-is _ _ _ (c .before .over-nothing .ensures) (c .extract-or-zeros .ensures)
 
 pub next-secret-spec : {M : Type 1} → statement M
