@@ -2,10 +2,10 @@
 use super::readings::say_reading;
 use super::reply::Reply;
 use buffer::least;
+use hex::put_hex;
 use libc::STDOUT_FILENO;
 use session::record::Session;
 use text::decimal::put_decimal;
-use text::hex::put_hex;
 
 pub(crate) fn say(words: &[u8]) {
     io::write_all(STDOUT_FILENO, words);

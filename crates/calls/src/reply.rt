@@ -1,7 +1,7 @@
 // What a record's call comes to.
 use journal::record::Reading;
-use outputs::check::Verdict;
 use refusal::Answer;
+use refusal::verdict::Verdict;
 use session::record::Outcome;
 use session::record::Session;
 

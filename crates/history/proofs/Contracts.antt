@@ -16,7 +16,7 @@ use borrow.Fn.Kinds.{endedOf}
 use Rattle.refusal.specs.declared.Answer.{Answer}
 use Rattle.session.specs.declared.record.Session.{Session}
 use Rattle.session.specs.declared.record.Outcome.{Outcome}
-use Rattle.outputs.specs.declared.check.Verdict.{Verdict}
+use Rattle.refusal.specs.declared.verdict.Verdict.{Verdict}
 use Rattle.outputs.specs.Verdict.{judged}
 use Rattle.book.specs.Call.Call.{Begin, Feed, Early, Handshake, Application, Complete, Update, Close, Keys, Finished, Check, Binder, Export}
 use Rattle.session.specs.Promise.{Done, plain, wrote}

@@ -24,8 +24,9 @@ use Rattle.session.specs.Session.{sessionOf}
 use Rattle.session.specs.Promise.{Done, wrote}
 use Rattle.book.proofs.AcceptedReads.{keys-small, keys-zero, finished-small, finished-zero, check-small, binder-small, binder-zero}
 use Rattle.session.proofs.Calls.{refused, refused-by, accepted}
-use Rattle.outputs.specs.declared.check.Verdict.{Verdict}
-use Rattle.outputs.specs.Verdict as Verdict
+use Rattle.refusal.specs.declared.verdict.Verdict.{Verdict}
+use Rattle.refusal.specs.Verdict.{verdictNumber, saysYes}
+use Rattle.outputs.specs.Verdict.{judged}
 use Rattle.outputs.specs.Places.{namedPlace, finishedFrom}
 use Rattle.outputs.proofs.Deciding.{keys-is, finished-is, check-is, binder-is}
 use Rattle.outputs.proofs.Writing.{value-written}
@@ -102,20 +103,20 @@ module _ (s : Session) (side : ℕ) (out : List ℕ) {n : ℕ} (en : n ≡ finis
 
 -- Check
 module _ (s : Session) (side : ℕ) (received : List ℕ) {n : ℕ} (en : n ≡ checkNumber (s .point) (s .stage) side) where
-  pub check-refused : (r : Verdict) → (n ≡ 0 → ⊥) → (Verdict.number r ≡ min n 13) × (Verdict.yes r ≡ false) → Done s
-      (Check side received) s (Verdict.judged r)
+  pub check-refused : (r : Verdict) → (n ≡ 0 → ⊥) → (verdictNumber r ≡ min n 13) × (saysYes r ≡ false) → Done s
+      (Check side received) s (judged r)
   unfolding lent
   check-refused r some d =
       let small : n ≤ 13 = subst (λ (k : ℕ). k ≤ 13) (sym en) (check-small (s .point) (s .stage) side) in
-      let e : Verdict.number r ≡ n = d .0 ∙ omega arith in
+      let e : verdictNumber r ≡ n = d .0 ∙ omega arith in
       subst (λ (v : Bool). Done s (Check side received) s (record {
-        number = Verdict.number r;
+        number = verdictNumber r;
         count = 0;
         verdict = v;
         output =
             [];
       })) (sym (d .1))
-      (refused s (Check side received) (Verdict.number r) 0 (λ b re p. e ∙ check-is s side received en b re p)
+      (refused s (Check side received) (verdictNumber r) 0 (λ b re p. e ∙ check-is s side received en b re p)
       (λ z. some (sym e ∙ z)) refl)
 
   pub checked : (v : Bool) {h : ℕ} {value : List ℕ} {r : Bool} → n ≡ 0 → h ≡ hashLen (s .suite) → value ≡ placed

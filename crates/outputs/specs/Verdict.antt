@@ -1,21 +1,8 @@
--- Document 01, Check: the number and the yes or no of each verdict. It reports no byte written and lends no output.
-use Prim.Native.Nat.{ℕ}
-use mathlib.Core.Bool.{Bool, true, false}
+-- Document 01, Check: its reply. It reports no byte written and lends no output.
 use mathlib.Core.List.{[]}
-use Rattle.refusal.specs.Refusal.{numberOf}
+use Rattle.refusal.specs.declared.verdict.Verdict.{Verdict}
+use Rattle.refusal.specs.Verdict.{verdictNumber, saysYes}
 use Rattle.session.specs.Promise.{Reply}
-use Rattle.outputs.specs.declared.check.Verdict.{Verdict}
-use Rattle.outputs.specs.declared.check.Verdict.the-variants.{Yes, No, Refused}
-
-abbrev pub number : Verdict → ℕ
-number Yes = 0
-number No = 0
-number (Refused why) = numberOf why
-
-abbrev pub yes : Verdict → Bool
-yes Yes = true
-yes No = false
-yes (Refused why) = false
 
 abbrev pub judged : Verdict → Reply
-judged v = record { number = number v; count = 0; verdict = yes v; output = [] }
+judged v = record { number = verdictNumber v; count = 0; verdict = saysYes v; output = [] }

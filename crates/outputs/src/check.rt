@@ -2,7 +2,7 @@
 use super::values::finished_value;
 use read_numbers::check_number;
 use refusal::Answer;
-use refusal::Refusal;
+use refusal::verdict::Verdict;
 use session::record::Session;
 use suite::Suite;
 ghost use mathlib.Core.Path.{_≡_};
@@ -11,41 +11,12 @@ ghost use Prim.Native.Nat.{min};
 ghost use Rattle.buffer.specs.Buffer.{same};
 ghost use Rattle.book.specs.Call.{Call};
 ghost use Rattle.session.specs.Promise.{Done};
-ghost use Rattle.outputs.specs.Verdict.{number, yes, judged};
-
-// What Check answers.
-pub enum Verdict {
-    Yes,
-    No,
-    Refused(Refusal),
-}
-
-impl Verdict {
-    // 0, or the refusal's number.
-    pub fn number(self) -> u8
-        ensures { λ r. ⌜ r ≡ number self ⌝ }
-    {
-        match self {
-            Verdict::Yes => 0,
-            Verdict::No => 0,
-            Verdict::Refused(why) => why.number(),
-        }
-    }
-
-    pub fn is_yes(self) -> bool
-        ensures { λ r. ⌜ r ≡ yes self ⌝ }
-    {
-        match self {
-            Verdict::Yes => true,
-            Verdict::No => false,
-            Verdict::Refused(_) => false,
-        }
-    }
-}
+ghost use Rattle.refusal.specs.Verdict.{verdictNumber, saysYes};
+ghost use Rattle.outputs.specs.Verdict.{judged};
 
 // The verdict of a decided number.
 fn refused(decision: u8) -> Verdict
-    ensures { λ r. ⌜ (number r ≡ min decision 13) × (yes r ≡ false) ⌝ }
+    ensures { λ r. ⌜ (verdictNumber r ≡ min decision 13) × (saysYes r ≡ false) ⌝ }
 {
     match Answer::decided(decision, 0) {
         Answer::Done(_) => Verdict::No,

@@ -11,11 +11,11 @@ use lib.ListN.{length, drop, getD, drop-of-length-le}
 use lib.Seq.{drop-cons}
 use borrow.Author.Tests.{ne-eqb, eq-eqb, lt-ltb, le-ltb, ltb-false}
 use Rattle.buffer.specs.Buffer.{fronted, same}
-use Rattle.text.specs.Hex.{hexValue, hexRun, unhex, readHex, outOf}
+use Rattle.hex.specs.Hex.{hexValue, hexRun, unhex, readHex, outOf}
 use Rattle.text.specs.Decimal.{readDecimal}
 use Rattle.text.specs.declared.decimal.DecimalRead.the-variants as decimal
-use Rattle.text.specs.declared.hex.HexRead.{HexRead}
-use Rattle.text.specs.declared.hex.HexRead.the-variants.{Bytes, Bad}
+use Rattle.hex.specs.declared.HexRead.{HexRead}
+use Rattle.hex.specs.declared.HexRead.the-variants.{Bytes, Bad}
 use Rattle.script.specs.declared.number.Wide.the-variants as wide
 use Rattle.script.specs.declared.number.Small.the-variants as small
 use Rattle.script.proofs.Words.{cond-within}

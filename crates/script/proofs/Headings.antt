@@ -8,7 +8,7 @@ use lib.Dec.{eqb, leb, ltb}
 use lib.ListN.{length, getD}
 use borrow.Author.Tests.{ne-eqb, eq-eqb, leb-true, eqb-false, ltb-false}
 use Rattle.refusal.proofs.Laws.{and-true}
-use Rattle.text.specs.Hex.{hexValue}
+use Rattle.hex.specs.Hex.{hexValue}
 use Rattle.journal.specs.Calls.{Fits}
 use Rattle.script.specs.declared.fault.Fault.the-variants as fault
 use Rattle.script.specs.declared.heading.Heading.{Heading}

@@ -6,8 +6,8 @@ use native.Mathlib.Omega.{arith}
 use lib.ListN.{length, take, getD}
 use borrow.Author.Tests.{ne-eqb, eq-eqb}
 use Rattle.buffer.specs.Buffer.{fronted}
-use Rattle.text.specs.declared.hex.HexRead.{HexRead}
-use Rattle.text.specs.declared.hex.HexRead.the-variants as hex
+use Rattle.hex.specs.declared.HexRead.{HexRead}
+use Rattle.hex.specs.declared.HexRead.the-variants as hex
 use Rattle.journal.specs.declared.record.Call.{Call}
 use Rattle.journal.specs.Calls.{Fits}
 use Rattle.script.specs.declared.fault.Fault.{Fault}

@@ -5,12 +5,12 @@ use mathlib.Core.List.{List, [], _∷_}
 use lib.ListN.{length}
 use lib.Dec.{eqb, ltb}
 use Rattle.buffer.specs.Buffer.{fronted, same}
-use Rattle.text.specs.Hex.{hexValue, unhex, readHex}
+use Rattle.hex.specs.Hex.{hexValue, unhex, readHex}
 use Rattle.text.specs.Decimal.{readDecimal}
 use Rattle.text.specs.declared.decimal.DecimalRead.{DecimalRead}
 use Rattle.text.specs.declared.decimal.DecimalRead.the-variants as decimal
-use Rattle.text.specs.declared.hex.HexRead.{HexRead}
-use Rattle.text.specs.declared.hex.HexRead.the-variants as hex
+use Rattle.hex.specs.declared.HexRead.{HexRead}
+use Rattle.hex.specs.declared.HexRead.the-variants as hex
 use Rattle.script.specs.declared.number.Wide.{Wide}
 use Rattle.script.specs.declared.number.Wide.the-variants as wide
 use Rattle.script.specs.declared.number.Small.{Small}

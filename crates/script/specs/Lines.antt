@@ -6,8 +6,8 @@ use mathlib.Core.List.{List, []}
 use lib.ListN.{length, getD, take}
 use lib.Dec.{eqb}
 use Rattle.buffer.specs.Buffer.{fronted}
-use Rattle.text.specs.declared.hex.HexRead.{HexRead}
-use Rattle.text.specs.declared.hex.HexRead.the-variants as hex
+use Rattle.hex.specs.declared.HexRead.{HexRead}
+use Rattle.hex.specs.declared.HexRead.the-variants as hex
 use Rattle.journal.specs.declared.record.Call.{Call}
 use Rattle.script.specs.declared.fault.Fault.{Fault}
 use Rattle.script.specs.declared.heading.Heading.{Heading}

@@ -1,10 +1,10 @@
 // The numbers and bytes of a line's fields.
 use super::word::same;
+use hex::HexRead;
+use hex::get_hex;
+use hex::hex_value;
 use text::decimal::DecimalRead;
 use text::decimal::get_decimal;
-use text::hex::HexRead;
-use text::hex::get_hex;
-use text::hex::hex_value;
 ghost use mathlib.Core.Path.{_≡_};
 ghost use lib.ListN.{length};
 ghost use Rattle.script.specs.Fields.{hexNumber, smallNumber, readBody, bodyOf, kept};

@@ -1,4 +1,3 @@
 pub mod Values
-pub mod Pairs
 pub mod Numbers
 pub mod Ends

@@ -7,11 +7,11 @@ use super::line::behind_space;
 use super::output::say;
 use super::output::say_hex;
 use super::output::say_refused;
+use hex::HexRead;
 use refusal::Answer;
 use text::decimal::DecimalRead;
 use text::decimal::get_decimal;
 use text::field::field_end;
-use text::hex::HexRead;
 ghost use Prim.Native.Nat.{_≤_};
 
 // The most bytes that are printed.

@@ -3,9 +3,9 @@
 use super::hashing::SuiteRead;
 use super::hashing::read_bytes;
 use super::hashing::read_suite;
+use hex::HexRead;
 use text::decimal::DecimalRead;
 use text::decimal::get_decimal;
-use text::hex::HexRead;
 ghost use Prim.Native.Nat.{_≤_};
 ghost use lib.ListN.{length};
 

@@ -1,8 +1,8 @@
 // What is printed.
+use hex::put_hex;
 use libc::STDOUT_FILENO;
 use refusal::Answer;
 use text::decimal::put_decimal;
-use text::hex::put_hex;
 
 pub(crate) fn say(words: &[u8]) {
     io::write_all(STDOUT_FILENO, words);

@@ -1,8 +1,8 @@
-use Rattle.text.proofs.Values.{digit-value, lower-value, upper-value, no-value}
+use Rattle.hex.proofs.Values.{digit-value, lower-value, upper-value, no-value}
 use native.Mathlib.Omega.{arith}
 use borrow.Author.Needs.{needs}
-use Rattle.text.proofs.hex.hex_value.Statement.{statement}
-use Rattle.text.proofs.hex.hex_value.Tie as tie
+use Rattle.hex.proofs.hex_value.Statement.{statement}
+use Rattle.hex.proofs.hex_value.Tie as tie
 
 returns : tie.Need-returns
 returns c = (digit-value _ (omega arith) (omega arith), omega arith)

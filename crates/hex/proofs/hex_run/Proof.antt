@@ -1,5 +1,5 @@
-use Rattle.text.proofs.Pairs.{run-next, run-stop, run-end}
-use Rattle.text.specs.Hex.{hexRun}
+use Rattle.hex.proofs.Pairs.{run-next, run-stop, run-end}
+use Rattle.hex.specs.Hex.{hexRun}
 use lib.ListN.{length, drop}
 use Prim.Native.Nat.{_+_, _-_, _≤_}
 use native.Mathlib.Omega.{arith}
@@ -7,8 +7,8 @@ use native.Mathlib.Nat.{zero-add}
 use mathlib.Core.Path.{_≡_, sym, _∙_}
 use denote.Ref.{now}
 use borrow.Author.Needs.{needs}
-use Rattle.text.proofs.hex.hex_run.Statement.{statement}
-use Rattle.text.proofs.hex.hex_run.Tie as tie
+use Rattle.hex.proofs.hex_run.Statement.{statement}
+use Rattle.hex.proofs.hex_run.Tie as tie
 
 abbrev Inv-loop : tie.InvT-loop
 Inv-loop s i₀ i = (i ≤ length s) × (i + hexRun (drop i s) ≡ hexRun s)

@@ -1,8 +1,8 @@
-use Rattle.text.specs.Hex.{hexDigit}
+use Rattle.hex.specs.Hex.{hexDigit}
 use borrow.Author.Tests.{lt-ltb, le-ltb}
 use borrow.Author.Needs.{needs}
-use Rattle.text.proofs.hex.hex_digit.Statement.{statement}
-use Rattle.text.proofs.hex.hex_digit.Tie as tie
+use Rattle.hex.proofs.hex_digit.Statement.{statement}
+use Rattle.hex.proofs.hex_digit.Tie as tie
 
 returns : tie.Need-returns
 unfolding hexDigit

@@ -11,8 +11,8 @@ use lib.ListN.{length, take, drop, set, getD, drop-of-length-le, length-set, tak
 use lib.Seq.{drop-cons, drop-set-lt, take-suc-set, append-snoc}
 use borrow.Author.Tests.{lt-ltb, le-ltb, ne-eqb, eq-eqb, eqb-false, ltb-false}
 use Rattle.buffer.specs.Buffer.{overwrite, fronted}
-use Rattle.text.specs.Hex.{hexValue, hexDigit, hexOf, hexRun, unhex, readHex}
-use Rattle.text.specs.declared.hex.HexRead.the-variants.{Bytes, Bad}
+use Rattle.hex.specs.Hex.{hexValue, hexDigit, hexOf, hexRun, unhex, readHex}
+use Rattle.hex.specs.declared.HexRead.the-variants.{Bytes, Bad}
 
 -- one byte more of those that are written from index at on
 overwrite-cons : (at v : ℕ) (bs xs : List ℕ) → at < length xs → overwrite at (v ∷ bs) xs ≡ overwrite (at + 1) bs (set xs at v)

@@ -1,10 +1,10 @@
-use Rattle.text.proofs.Pairs.{no-room, no-digit, even, odd}
-use Rattle.text.specs.Hex.{outOf}
+use Rattle.hex.proofs.Pairs.{no-room, no-digit, even, odd}
+use Rattle.hex.specs.Hex.{outOf}
 use mathlib.Core.Path.{refl}
 use denote.Ref.{now}
 use borrow.Author.Needs.{needs}
-use Rattle.text.proofs.hex.get_hex.Statement.{statement}
-use Rattle.text.proofs.hex.get_hex.Tie as tie
+use Rattle.hex.proofs.get_hex.Statement.{statement}
+use Rattle.hex.proofs.get_hex.Tie as tie
 
 returns : tie.Need-returns
 unfolding outOf

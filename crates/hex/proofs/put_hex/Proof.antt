@@ -1,5 +1,5 @@
-use Rattle.text.proofs.Pairs.{hexOf-next, hexOf-none, length-hexOf, overwrite-nil}
-use Rattle.text.specs.Hex.{hexOf}
+use Rattle.hex.proofs.Pairs.{hexOf-next, hexOf-none, length-hexOf, overwrite-nil}
+use Rattle.hex.specs.Hex.{hexOf}
 use Rattle.buffer.specs.Buffer.{overwrite}
 use Rattle.buffer.proofs.Laws.{after-fits, behind-fits, after-none, behind-none}
 use lib.ListN.{length, drop, length-set}
@@ -9,8 +9,8 @@ use mathlib.Core.Path.{_≡_, refl, sym, ap, _∙_}
 use mathlib.Core.List.{List}
 use denote.Ref.{now}
 use borrow.Author.Needs.{needs}
-use Rattle.text.proofs.hex.put_hex.Statement.{statement}
-use Rattle.text.proofs.hex.put_hex.Tie as tie
+use Rattle.hex.proofs.put_hex.Statement.{statement}
+use Rattle.hex.proofs.put_hex.Tie as tie
 
 abbrev Inv-loop : tie.InvT-loop
 Inv-loop out₀ at bytes i₀ j₀ out i j = (i ≤ length bytes) × (j ≡ at + i * 2) × (at + length bytes * 2 ≤ length out₀) × (length out ≡ length out₀) × (overwrite j (hexOf (drop i bytes)) out ≡ overwrite at (hexOf bytes) out₀)

@@ -1,5 +1,5 @@
-use Rattle.text.proofs.Pairs.{unhex-next, unhex-none, digit-small, overwrite-nil, overwrite-front}
-use Rattle.text.specs.Hex.{hexRun, unhex}
+use Rattle.hex.proofs.Pairs.{unhex-next, unhex-none, digit-small, overwrite-nil, overwrite-front}
+use Rattle.hex.specs.Hex.{hexRun, unhex}
 use Rattle.buffer.specs.Buffer.{overwrite, fronted}
 use lib.ListN.{length, drop, length-set}
 use Prim.Native.Nat.{ℕ, _+_, _-_, _*_, _≤_}
@@ -8,8 +8,8 @@ use mathlib.Core.Path.{_≡_, refl, sym, ap, _∙_}
 use mathlib.Core.List.{List}
 use denote.Ref.{now}
 use borrow.Author.Needs.{needs}
-use Rattle.text.proofs.hex.fill.Statement.{statement}
-use Rattle.text.proofs.hex.fill.Tie as tie
+use Rattle.hex.proofs.fill.Statement.{statement}
+use Rattle.hex.proofs.fill.Tie as tie
 
 abbrev Inv-loop : tie.InvT-loop
 Inv-loop s out₀ n i₀ out i = (i ≤ n) × (length s ≡ n * 2) × (hexRun s ≡ length s) × (n ≤ length out₀) × (length out ≡ length out₀) × (overwrite i (unhex (drop (i * 2) s)) out ≡ fronted (unhex s) out₀)

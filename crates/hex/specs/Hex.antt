@@ -5,8 +5,8 @@ use mathlib.Core.List.{List, [], _∷_}
 use lib.ListN.{length}
 use lib.Dec.{eqb, leb, ltb}
 use Rattle.buffer.specs.Buffer.{fronted}
-use Rattle.text.specs.declared.hex.HexRead.{HexRead}
-use Rattle.text.specs.declared.hex.HexRead.the-variants.{Bytes, Bad}
+use Rattle.hex.specs.declared.HexRead.{HexRead}
+use Rattle.hex.specs.declared.HexRead.the-variants.{Bytes, Bad}
 
 -- the value of a digit: 0 to 9, a to f, A to F; 16 where c is none
 unfoldable pub hexValue : ℕ → ℕ

@@ -3,7 +3,7 @@ ghost use mathlib.Core.Path.{_≡_};
 ghost use Prim.Native.Nat.{_*_, _≤_};
 ghost use lib.ListN.{length};
 ghost use Rattle.buffer.specs.Buffer.{after, behind, fronted};
-ghost use Rattle.text.specs.Hex.{hexValue, hexDigit, hexOf, hexRun, unhex, readHex, outOf};
+ghost use Rattle.hex.specs.Hex.{hexValue, hexDigit, hexOf, hexRun, unhex, readHex, outOf};
 
 // What get_hex answers: how many bytes it read, or the index of the first character that is no
 // digit, finds no room, or is missing.
