@@ -1,16 +1,16 @@
 // The calls that may change the session: kinds 1 to 8, whose payloads are those of the journal.
 use super::reply::Reply;
 use super::reply::Turn;
+use application_stage::application::application;
+use application_stage::complete::complete;
+use application_stage::update::update;
 use frames::number2;
-use session::application::application;
+use handshake_stage::early::early;
+use handshake_stage::handshake::handshake;
 use session::begin::begin;
 use session::close::close;
-use session::complete::complete;
-use session::early::early;
 use session::feed::feed;
-use session::handshake::handshake;
 use session::record::Session;
-use session::update::update;
 
 // suite 2, PSK kind 1, PSK
 fn make_begin(s: Session, p: &[u8]) -> Turn {

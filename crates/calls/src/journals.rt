@@ -5,7 +5,7 @@ use frames::number2;
 use frames::number4;
 use journal::read::read;
 use journal::record::Call;
-use journal::write::write;
+use writer::write;
 
 // Writes a call whose body is what stands from index from on.
 fn write_from(call: Call, p: &[u8], from: usize, lent: &mut [u8]) -> Reply {

@@ -2,11 +2,11 @@
 use super::payload::field_at;
 use super::reply::Reply;
 use buffer::byte_at;
+use finished::binder::binder;
+use finished::check::check;
+use finished::finished::finished;
 use frames::number4;
-use outputs::binder::binder;
-use outputs::check::check;
 use outputs::export::export;
-use outputs::finished::finished;
 use outputs::keys::keys;
 use session::record::Session;
 

@@ -1,27 +1,15 @@
 // The refusals of the lower calls, by sizes alone.
-use super::mac::MAX_MESSAGE;
 use oneshot::MAX_INPUT;
 use refusal::refuse_if;
 use suite::MAX_LABEL;
 use suite::Suite;
 ghost use mathlib.Core.Path.{_≡_};
-ghost use Rattle.hkdf.specs.Refusals.{macNumber, expandNumber, expandLabelNumber, deriveSecretNumber, askable, labelled};
+ghost use Rattle.hkdf.specs.Refusals.{expandNumber, expandLabelNumber, deriveSecretNumber, askable, labelled};
 
 // The longest info of Expand, and context of Expand-Label.
 const MAX_INFO: usize = 1024;
 
 const MAX_CONTEXT: usize = 255;
-
-pub(crate) fn mac_number(suite: u16, key: usize, message: usize, room: usize) -> u8
-    ensures { λ r. ⌜ r ≡ macNumber suite key message room ⌝ }
-{
-    let known = Suite::is_known(suite);
-    let h = Suite::hash_len(suite);
-    let b = Suite::block_len(suite);
-    let output = refuse_if(room < h, 11, 0);
-    let input = refuse_if(MAX_MESSAGE < message, 9, output);
-    refuse_if(!known, 2, refuse_if(b < key, 4, input))
-}
 
 // Whether a length is 1 to 255 blocks.
 fn can_ask(suite: u16, asked: usize) -> bool

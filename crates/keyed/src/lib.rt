@@ -1,6 +1,6 @@
 // A secret prepared as a key, HKDF-Extract, and the first block of HKDF-Expand-Label under such a key. Every function here
 // is total: the calls above it judge lengths.
-use hkdf::mac::MAX_MESSAGE;
+use hkdf::MAX_MESSAGE;
 use hmac::Keyed;
 use hmac::close;
 use hmac::mac;

@@ -18,7 +18,7 @@ pub fn feed(s: &mut Session, message: &[u8]) -> Answer
 pub fn update(s: &mut Session, side: u8) -> Answer
     ensures { λ r. ⌜ Done (now (s .entry)) (Call.Update side) (now (s .exit)) (plain r) ⌝ }
 {
-    let a = session::update::update(*s, side);
+    let a = application_stage::update::update(*s, side);
     *s = a.session;
     a.answer
 }

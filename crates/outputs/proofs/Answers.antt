@@ -36,7 +36,7 @@ use Rattle.outputs.proofs.Places.{keys-value, finished-value, check-val
 abbrev pub Refuses : ℕ → Answer → Type 0
 Refuses n a = (Refusal.number a ≡ min n 13) × (Refusal.count a ≡ cond (eqb n 0) 0 0)
 
-abbrev Reports : ℕ → Answer → Type 0
+abbrev pub Reports : ℕ → Answer → Type 0
 Reports count a = (Refusal.number a ≡ min 0 13) × (Refusal.count a ≡ cond (eqb 0 0) count 0)
 
 -- an accepted call that reads the session and writes K

@@ -1,5 +1,4 @@
 pub mod Deciding
-pub mod Comparing
 pub mod Writing
 pub mod Places
 pub mod Answers

@@ -1,6 +1,6 @@
 // Export: bytes for other uses (RFC 8446, section 7.5).
-use read_numbers::export_number;
-use read_numbers::length_in_force;
+use super::numbers::export_number;
+use super::numbers::length_in_force;
 use refusal::Answer;
 use schedule::exporter::tls_exporter;
 use session::record::Session;

@@ -1,6 +1,5 @@
 // Keys: the traffic key and IV of a secret that is held.
-use super::values::write_part;
-use read_numbers::keys_number;
+use super::numbers::keys_number;
 use refusal::Answer;
 use session::record::Session;
 use suite::Suite;
@@ -8,7 +7,7 @@ use traffic::traffic_keys;
 ghost use mathlib.Core.Path.{_≡_};
 ghost use Prim.Native.Nat.{_+_, _≤_};
 ghost use lib.ListN.{length, take};
-ghost use Rattle.buffer.specs.Buffer.{fronted};
+ghost use Rattle.buffer.specs.Buffer.{fronted, after, behind};
 ghost use Rattle.suite.specs.Suite.{hashLen, keyLen, ivLen};
 ghost use Rattle.schedule.specs.Schedule.{trafficKeys};
 ghost use Rattle.book.specs.Call.{Call};
@@ -31,6 +30,14 @@ fn named_place(s: Session, name: u8) -> [u8; 48]
         return s.client_application;
     }
     s.server_application
+}
+
+// Writes the first n bytes of a value to out from index at on, and answers the index behind them.
+fn write_part(value: [u8; 48], n: usize, at: usize, out: &mut [u8]) -> usize
+    requires { ⌜ n ≤ 48 ⌝ }
+    ensures { λ r. ⌜ (r ≡ behind at (take n value) (now (out .entry))) × (now (out .exit) ≡ after at (take n value) (now (out .entry))) ⌝ }
+{
+    buffer::put(out, at, &value[..n])
 }
 
 // Writes the key to the front of out and the IV right behind it, and answers the index behind both.

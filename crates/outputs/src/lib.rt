@@ -1,7 +1,4 @@
-// The calls of document 01 that only read a session.
-pub mod binder;
-pub mod check;
+// Keys and Export: the calls of document 01 that give out what is held.
 pub mod export;
-pub mod finished;
 pub mod keys;
-mod values;
+mod numbers;

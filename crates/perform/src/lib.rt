@@ -1,24 +1,24 @@
 // Performs any list of calls that is given as bytes (specs/Encoding), from a fresh session.
 pub mod encoded;
 
+use application_stage::application::application;
+use application_stage::complete::complete;
+use application_stage::update::update;
 use encoded::Header;
 use encoded::is_whole;
 use encoded::read_header;
-use outputs::binder::binder;
-use outputs::check::check;
+use finished::binder::binder;
+use finished::check::check;
+use finished::finished::finished;
+use handshake_stage::early::early;
+use handshake_stage::handshake::handshake;
 use outputs::export::export;
-use outputs::finished::finished;
 use outputs::keys::keys;
-use session::application::application;
 use session::begin::begin;
 use session::close::close;
-use session::complete::complete;
-use session::early::early;
 use session::feed::feed;
-use session::handshake::handshake;
 use session::record::Session;
 use session::record::fresh;
-use session::update::update;
 ghost use mathlib.Core.Path.{_≡_};
 ghost use mathlib.Core.List.{List};
 ghost use Rattle.session.specs.Promise.{Reply, Done};

@@ -1,9 +1,9 @@
 // Begin: suite, PSK kind and PSK.
+use super::numbers::begin_number;
 use super::record::Outcome;
 use super::record::Session;
 use super::record::fresh;
 use book::points::EARLY;
-use change_numbers::begin_number;
 use refusal::Answer;
 use schedule::secrets::binder_key;
 use schedule::secrets::early_secret;

@@ -1,9 +1,9 @@
 // Feed: one whole handshake message.
+use super::messages::stage_after;
+use super::numbers::feed_number;
 use super::record::Outcome;
 use super::record::Session;
 use buffer::byte_at;
-use change_numbers::feed_number;
-use change_numbers::messages::stage_after;
 use refusal::Answer;
 use sha2::running::absorb;
 ghost use mathlib.Core.Path.{_≡_};

@@ -1,10 +1,7 @@
-// The session of document 01: its record, and the calls that change it.
-pub mod application;
+// The session of document 01: its record, and the calls Begin, Feed and Close.
 pub mod begin;
 pub mod close;
-pub mod complete;
-pub mod early;
 pub mod feed;
-pub mod handshake;
+mod messages;
+mod numbers;
 pub mod record;
-pub mod update;

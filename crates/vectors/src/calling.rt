@@ -42,11 +42,11 @@ fn call(s: Session, change: Change, first: u16, second: usize, bytes: &[u8]) -> 
         Change::Fresh => anew(),
         Change::Begin => session::begin::begin(s, first, small(second), bytes),
         Change::Feed => session::feed::feed(s, bytes),
-        Change::Early => session::early::early(s),
-        Change::Handshake => session::handshake::handshake(s, first, bytes),
-        Change::Application => session::application::application(s),
-        Change::Complete => session::complete::complete(s),
-        Change::Update => session::update::update(s, small(first as usize)),
+        Change::Early => handshake_stage::early::early(s),
+        Change::Handshake => handshake_stage::handshake::handshake(s, first, bytes),
+        Change::Application => application_stage::application::application(s),
+        Change::Complete => application_stage::complete::complete(s),
+        Change::Update => application_stage::update::update(s, small(first as usize)),
         Change::Close => session::close::close(s),
     }
 }

@@ -5,14 +5,14 @@
 use super::output::say;
 use super::output::say_refused;
 use super::places::place;
+use application_stage::application::application;
 use check::same;
+use extract::extract;
+use handshake_stage::handshake::handshake;
 use hkdf::label::expand_label;
-use hkdf::mac::extract;
 use oneshot::hash;
 use outputs::export::export;
 use refusal::Answer;
-use session::application::application;
-use session::handshake::handshake;
 use session::record::Session;
 use suite::Suite;
 

@@ -26,8 +26,8 @@ pub(crate) enum Keying {
 
 fn call(keying: Keying, suite: u16, n: usize, a: &[u8], b: &[u8], out: &mut [u8]) -> Answer {
     match keying {
-        Keying::Hmac => hkdf::mac::hmac(suite, a, b, out),
-        Keying::Extract => hkdf::mac::extract(suite, a, b, out),
+        Keying::Hmac => extract::hmac(suite, a, b, out),
+        Keying::Extract => extract::extract(suite, a, b, out),
         Keying::Expand => hkdf::expand::expand(suite, a, b, n, out),
     }
 }

@@ -36,12 +36,12 @@ fn answer_keys(s: Session, name: u8) {
 
 fn answer_finished(s: Session, side: u8) {
     let mut out = [0u8; 48];
-    let answer = outputs::finished::finished(s, side, &mut out);
+    let answer = finished::finished::finished(s, side, &mut out);
     say_written(answer, &out);
 }
 
 fn answer_check(s: Session, side: u8, received: &[u8]) {
-    let verdict = outputs::check::check(s, side, received);
+    let verdict = finished::check::check(s, side, received);
     let number = verdict.number();
     if number != 0 {
         say_refused(number);
@@ -56,7 +56,7 @@ fn answer_check(s: Session, side: u8, received: &[u8]) {
 
 fn answer_binder(s: Session, hello: &[u8]) {
     let mut out = [0u8; 48];
-    let answer = outputs::binder::binder(s, hello, &mut out);
+    let answer = finished::binder::binder(s, hello, &mut out);
     say_written(answer, &out);
 }
 

@@ -51,10 +51,10 @@ use Rattle.session.proofs.record.Session as T
 use Rattle.session.proofs.record.Session.Laws as T′
 use Rattle.session.proofs.record.Outcome as R
 use Rattle.session.proofs.record.Outcome.Laws as R′
-use Rattle.session.proofs.update.update as update
-use Rattle.session.proofs.update.update.Symbol as update-def
-use Rattle.session.proofs.update.update.Symbol.{name as #session·update}
-use Rattle.session.proofs.update.update.Met as update-thm
+use Rattle.application_stage.proofs.update.update as update
+use Rattle.application_stage.proofs.update.update.Symbol as update-def
+use Rattle.application_stage.proofs.update.update.Symbol.{name as #session·update}
+use Rattle.application_stage.proofs.update.update.Met as update-thm
 use Rattle.modem.proofs.update.Key.{name as #modem·update}
 use Rattle.modem.proofs.update as in-place
 use Rattle.modem.proofs.update.Statement as stated
@@ -158,4 +158,4 @@ update-spec 𝓤 H 𝓜 𝓖 𝓡 =
     entered 𝓤 H (tripleOf 𝓤 H (𝓖 .A) in-place.signature (in-place.spec 𝓤 H (𝓖 .A) (𝓜 .mem) (𝓡 .run)))
     (tables 𝓤 H 𝓜 𝓡 code.env .C) (tables 𝓤 H 𝓜 𝓡 code.env .Λ) #modem·update code.function (code.unfolded 𝓤 H 𝓜 𝓡)
     (in-place-meets 𝓤 H (𝓖 .A) (givenOf 𝓤 H 𝓜 𝓖) (𝓜 .mem) (𝓡 .run) (tablesOf 𝓤 H 𝓜 (tables 𝓤 H 𝓜 𝓡 code.env))
-    (cited 𝓤 H (UpdateC 𝓤 H (𝓖 .A) (𝓜 .mem) (𝓡 .run)) 𝓜 𝓡 code.env #session·update update-def.routine code.calls-session·update·update (update-thm.met 𝓤 H 𝓜 𝓖 𝓡)))
+    (cited 𝓤 H (UpdateC 𝓤 H (𝓖 .A) (𝓜 .mem) (𝓡 .run)) 𝓜 𝓡 code.env #session·update update-def.routine code.calls-application-stage·update·update (update-thm.met 𝓤 H 𝓜 𝓖 𝓡)))

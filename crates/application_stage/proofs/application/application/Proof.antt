@@ -1,0 +1,47 @@
+use Prim.Native.Nat.{ℕ, _≤_}
+use mathlib.Core.Path.{refl, sym, _∙_, subst}
+use borrow.Author.Needs.{needs}
+use Rattle.book.specs.Call.Call.{Application}
+use Rattle.book.specs.Call.{lent}
+use Rattle.session.specs.Values.{written, verdict}
+use Rattle.book.proofs.Accepted.{application-small}
+use Rattle.book.proofs.Books.{good}
+use Rattle.session.proofs.Calls.{refused-by, accepted-plain}
+use Rattle.session.proofs.Decisions.{application-is, application-taken}
+use Rattle.session.proofs.Steps.{applied}
+use Rattle.application_stage.proofs.application.application.Statement.{statement}
+use Rattle.application_stage.proofs.application.application.Tie as tie
+
+returns : tie.Need-returns
+unfolding lent
+returns c = let a = c .before .before .before .args in
+    let n = c .before .before .application-number .ensures in
+    refused-by _ Application _ (c .decided .result) (application-is (a .s) n)
+    (subst (λ (k : ℕ). k ≤ 13) (sym n) (application-small _ _)) (c .before .if1 .taken) (c .decided .ensures)
+
+returns-2 : tie.Need-returns-2
+unfolding lent written verdict
+returns-2 c = let a = c .before .before .before .before .before .before .before .before .before .before .before .args in
+    let n = c .before .before .before .before .before .before .before .before .before .before .application-number .ensures in
+    let z = c .before .before .before .before .before .before .before .before .before .if1 .left in
+    accepted-plain (a .s) Application _ (c .decided2 .result) refl (λ b. refl) (λ b. refl)
+    (λ b r e. sym (application-is (a .s) n b r e) ∙ z)
+    (λ b r e y. applied b (a .s) (good r) (application-taken b y .0) e
+    (c .before .before .before .before .before .before .finish .ensures)
+    (c .before .before .before .before .before .master-secret .ensures)
+    (c .before .before .before .before .application-secrets .ensures .0)
+    (c .before .before .before .before .application-secrets .ensures .1)
+    (c .before .before .before .before .application-secrets .ensures .2)) (c .decided2 .ensures)
+
+pub application-spec : {M : Type 1} → statement M
+application-spec =
+    tie.close
+    (tie.spec
+    (λ c κs. search needs)
+    (λ c κs. search needs)
+    returns
+    (λ c κs. search needs)
+    (λ c κs. search needs)
+    (λ c κs. search needs)
+    (λ c κs. search needs)
+    returns-2)

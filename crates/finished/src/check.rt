@@ -1,0 +1,58 @@
+// Check: whether received bytes are the Finished value of a side.
+use super::numbers::check_number;
+use super::values::finished_value;
+use refusal::Answer;
+use refusal::verdict::Verdict;
+use session::record::Session;
+use suite::Suite;
+ghost use mathlib.Core.Path.{_≡_};
+ghost use mathlib.Core.Bool.{false};
+ghost use Prim.Native.Nat.{min};
+ghost use Rattle.buffer.specs.Buffer.{same};
+ghost use Rattle.book.specs.Call.{Call};
+ghost use Rattle.session.specs.Promise.{Done};
+ghost use Rattle.refusal.specs.Verdict.{verdictNumber, saysYes};
+ghost use Rattle.outputs.specs.Verdict.{judged};
+
+// The verdict of a decided number.
+fn refused(decision: u8) -> Verdict
+    ensures { λ r. ⌜ (verdictNumber r ≡ min decision 13) × (saysYes r ≡ false) ⌝ }
+{
+    match Answer::decided(decision, 0) {
+        Answer::Done(_) => Verdict::No,
+        Answer::Refused(why) => Verdict::Refused(why),
+    }
+}
+
+// Whether two slices are equal. All bytes are read, and no branch depends on one; lengths are public.
+fn is_same(a: &[u8], b: &[u8]) -> bool
+    ensures { λ r. ⌜ r ≡ same (now (a .entry)) (now (b .entry)) ⌝ }
+{
+    if a.len() != b.len() {
+        return false;
+    }
+    let mut bits: u8 = 0;
+    let mut i = 0;
+    while i < a.len() {
+        bits = bits | (a[i] ^ b[i]);
+        i += 1;
+    }
+    bits == 0
+}
+
+// Side 1 is the client, 2 the server; where Finished gives that side's value. Bytes of another length are a no. Refusals 1
+// and 2.
+pub fn check(s: Session, side: u8, received: &[u8]) -> Verdict
+    ensures { λ r. ⌜ Done s (Call.Check side (now (received .entry))) s (judged r) ⌝ }
+{
+    let number = check_number(s.point, s.stage, side);
+    if number != 0 {
+        return refused(number);
+    }
+    let h = Suite::hash_len(s.suite);
+    let value = finished_value(s, side);
+    if is_same(received, &value[..h]) {
+        return Verdict::Yes;
+    }
+    Verdict::No
+}

@@ -1,0 +1,22 @@
+// Finished: the Finished value of a side.
+use super::numbers::finished_number;
+use super::values::finished_value;
+use super::values::write_value;
+use refusal::Answer;
+use session::record::Session;
+ghost use Rattle.book.specs.Call.{Call};
+ghost use Rattle.session.specs.Promise.{Done, wrote};
+
+// Side 1 is the client, 2 the server; before that side's Finished is fed. Refusals 1, 2 and 11.
+pub fn finished(s: Session, side: u8, out: &mut [u8]) -> Answer
+    ensures { λ r. ⌜ Done s (Call.Finished side (now (out .entry))) s (wrote r (now (out .exit))) ⌝ }
+{
+    let number = finished_number(s.point, s.stage, s.suite, side, out.len());
+    if number != 0 {
+        return Answer::decided(number, 0);
+    }
+    let suite = s.suite;
+    let value = finished_value(s, side);
+    let count = write_value(suite, value, out);
+    Answer::decided(0, count)
+}

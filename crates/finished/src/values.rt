@@ -1,0 +1,38 @@
+// What the calls share: a value worked out, and written.
+use session::record::Session;
+use sha2::running::finish;
+use suite::Suite;
+use traffic::verify_data;
+ghost use mathlib.Core.Path.{_≡_};
+ghost use lib.ListN.{take};
+ghost use Rattle.buffer.specs.Buffer.{after, behind, placed};
+ghost use Rattle.suite.specs.Suite.{hashLen};
+ghost use Rattle.outputs.specs.Places.{basePlace, finishedFrom};
+
+fn base_place(s: Session, side: u8) -> [u8; 48]
+    ensures { λ r. ⌜ r ≡ basePlace s side ⌝ }
+{
+    if side == 1 {
+        return s.client_handshake;
+    }
+    s.server_handshake
+}
+
+// The Finished value of a side over the messages so far, with zeros behind it.
+pub(crate) fn finished_value(s: Session, side: u8) -> [u8; 48]
+    ensures { λ r. ⌜ r ≡ placed (finishedFrom s side) ⌝ }
+{
+    let suite = s.suite;
+    let running = s.transcript;
+    let base = base_place(s, side);
+    let hash = finish(suite, running);
+    verify_data(suite, base, hash)
+}
+
+// Writes the H bytes of a value to the front of out, and answers the index behind them.
+pub(crate) fn write_value(suite: u16, value: [u8; 48], out: &mut [u8]) -> usize
+    ensures { λ r. ⌜ (r ≡ behind 0 (take (hashLen suite) value) (now (out .entry))) × (now (out .exit) ≡ after 0 (take (hashLen suite) value) (now (out .entry))) ⌝ }
+{
+    let h = Suite::hash_len(suite);
+    buffer::put(out, 0, &value[..h])
+}
