@@ -5,6 +5,7 @@
 use crate::hkdf;
 use crate::hmac;
 use crate::refusal::{lowest, Answer, Refusal};
+use crate::sha2::Hash;
 use crate::suite::Suite;
 
 pub const HASH_INPUT_LIMIT: usize = 2_097_152;
@@ -22,23 +23,24 @@ pub fn hash(suite: u16, input: &[u8], output: &mut [u8]) -> Answer {
     Ok(write_front(output, &hash.digest(input)))
 }
 
-pub fn hmac(suite: u16, key: &[u8], message: &[u8], output: &mut [u8]) -> Answer {
-    let hash = known(suite)?.hash;
+/// HMAC, and Extract: its salt is the key, its input the message.
+fn judge_mac(hash: Hash, key: &[u8], message: &[u8], output: &[u8]) -> Result<(), Refusal> {
     lowest([
         (Refusal::WrongSize, key.len() > hash.block()),
         (Refusal::OverLimit, message.len() > HMAC_MESSAGE_LIMIT),
         (Refusal::OutputTooShort, output.len() < hash.length()),
-    ])?;
+    ])
+}
+
+pub fn hmac(suite: u16, key: &[u8], message: &[u8], output: &mut [u8]) -> Answer {
+    let hash = known(suite)?.hash;
+    judge_mac(hash, key, message, output)?;
     Ok(write_front(output, &hmac::hmac(hash, key, message)))
 }
 
 pub fn extract(suite: u16, salt: &[u8], input: &[u8], output: &mut [u8]) -> Answer {
     let hash = known(suite)?.hash;
-    lowest([
-        (Refusal::WrongSize, salt.len() > hash.block()),
-        (Refusal::OverLimit, input.len() > HMAC_MESSAGE_LIMIT),
-        (Refusal::OutputTooShort, output.len() < hash.length()),
-    ])?;
+    judge_mac(hash, salt, input, output)?;
     Ok(write_front(output, &hkdf::extract(hash, salt, input)))
 }
 
