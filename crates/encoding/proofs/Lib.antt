@@ -1,0 +1,4 @@
+pub mod Numbers
+pub mod Writing
+pub mod Reading
+pub mod Inverse

@@ -1,0 +1,4 @@
+pub mod Numbers
+pub mod Over
+pub mod Encoding
+pub mod Inverse

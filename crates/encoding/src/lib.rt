@@ -1,0 +1,3 @@
+// A session as bytes that a caller keeps.
+pub mod codec;
+mod number;
