@@ -1,4 +1,5 @@
-/* Bindcricket: the key schedule of TLS 1.3 (RFC 8446, section 7), for C99 and C++. Link libffi.a (`rt staticlib ffi`).
+/* Bindcricket: the key schedule of TLS 1.3 (RFC 8446, section 7), for C99 and C++. Link target/staticlib/libffi.a, which
+ * `rt staticlib ffi` makes, by its path (`-lffi` is another library).
  *
  * Every function answers a number: 0 is done, 1 to 13 are the refusals below, 255 says that the session buffer does not have
  * BINDCRICKET_SESSION_BYTES bytes. The lowest number that applies is given. A call that is not answered with 0 changes no byte
@@ -12,7 +13,7 @@
  * no other byte of `out`. A pointer may point anywhere where its size is 0, but it must not be null, and two buffers of which
  * one is written must not overlap.
  *
- * Copies of secrets stay on the stack below the caller until something else is called; see bindcricket_clear_stack. */
+ * Copies of secrets stay on the stack below the caller until something overwrites them: bindcricket_clear_stack does. */
 #ifndef BINDCRICKET_H
 #define BINDCRICKET_H
 
@@ -116,8 +117,8 @@ uint8_t bindcricket_keys(const uint8_t *session, size_t session_size, uint8_t na
  * client's at Application before its own. Refusals 1, 2, 11. */
 uint8_t bindcricket_finished(const uint8_t *session, size_t session_size, uint8_t side, uint8_t *out, size_t out_size, size_t *written);
 
-/* Check: `*yes` becomes 1 if the received bytes are the side's Finished value, else 0, also where the call is refused. A wrong
- * length is a no. Refusals 1, 2. */
+/* Check: `*yes` becomes 1 if the received bytes are the side's Finished value, else 0, also where the call is refused. Look at
+ * `*yes`: the answer is 0 for a no too. A wrong length is a no. Refusals 1, 2. */
 uint8_t bindcricket_check(const uint8_t *session, size_t session_size, uint8_t side, const uint8_t *received, size_t received_size, uint8_t *yes);
 
 /* Binder: the PSK binder over a ClientHello that is cut before its binders, 4 to 65,535 bytes. At Early.
@@ -157,6 +158,23 @@ uint8_t bindcricket_expand_label(uint16_t suite, const uint8_t *secret, size_t s
 /* Derive-Secret (RFC 8446, section 7.1) over messages of at most 2,097,152 bytes. Refusals 2, 4, 9, 10, 11. */
 uint8_t bindcricket_derive_secret(uint16_t suite, const uint8_t *secret, size_t secret_size, const uint8_t *label, size_t label_size,
                                   const uint8_t *messages, size_t messages_size, uint8_t *out, size_t out_size, size_t *written);
+
+/* ---- The stack ---- */
+
+/* No function above uses as much stack. */
+#define BINDCRICKET_STACK_BYTES 8192
+
+/* Makes the stack below the caller zero, BINDCRICKET_STACK_BYTES deep: to be called from the function that made the calls. */
+#if defined(__GNUC__)
+__attribute__((noinline, unused))
+#endif
+static void bindcricket_clear_stack(void)
+{
+    volatile uint8_t frame[BINDCRICKET_STACK_BYTES];
+    size_t i;
+    for (i = 0; i < sizeof frame; i++)
+        frame[i] = 0;
+}
 
 #ifdef __cplusplus
 }

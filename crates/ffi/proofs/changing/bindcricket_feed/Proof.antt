@@ -1,0 +1,44 @@
+use native.Mathlib.Omega.{arith}
+use denote.Ref.{now}
+use mathlib.Core.List.{[]}
+use Rattle.book.specs.Call.Call.{Feed}
+use Rattle.ffi.proofs.Calls.{wrong-size, changing}
+use borrow.Author.Needs.{needs}
+use Rattle.ffi.proofs.changing.bindcricket_feed.Statement.{statement}
+use Rattle.ffi.proofs.changing.bindcricket_feed.Tie as tie
+use Rattle.ffi.proofs.changing.bindcricket_feed.Reads as reads
+use Rattle.ffi.proofs.changing.bindcricket_feed.Lts as lts
+use Rattle.encoding.proofs.codec.decode.Reads as decode-reads
+use Rattle.ffi.proofs.changing.store.Reads as store-reads
+use Rattle.session.proofs.feed.feed.Reads as feed-reads
+
+-- src/changing.rt:70:9
+returns : tie.Need-returns
+returns c = let s = c .before .before .before in wrong-size (now (s .args .session)) (Feed (now (s .args .message))) [] (c .if1 .taken)
+
+-- src/changing.rt:72:21
+decode-requires : tie.Need-decode-requires
+decode-requires c κs = search needs
+
+-- src/changing.rt:72:9
+feed-requires : tie.Need-feed-requires
+feed-requires c κs = search needs
+
+-- src/changing.rt:73:5
+store-requires : tie.Need-store-requires
+store-requires c κs = search needs
+
+-- src/changing.rt:65:1
+same-length : tie.Need-same-length
+same-length c = search needs
+
+-- src/changing.rt:65:1
+returns-2 : tie.Need-returns-2
+returns-2 c =
+    let s = c .before .before .before .before .before .before .before .before .before .before in
+    changing (now (s .args .session)) (Feed (now (s .args .message))) (c .before .before .before .before .before .before .before .if1 .left) (λ i. omega (arith, c .before .before .before .before .before .before .before .before .before .slice-known .given i))
+    (c .before .before .before .before .before .decode .ensures) (c .before .before .before .before .feed .result) (c .before .before .before .before .feed .ensures) (c .before .before .store .ensures .0) (c .before .before .store .ensures .1)
+
+pub bindcricket-feed-spec : {M : Type 1} → statement M
+bindcricket-feed-spec =
+    tie.close (tie.spec returns decode-requires feed-requires store-requires same-length returns-2)

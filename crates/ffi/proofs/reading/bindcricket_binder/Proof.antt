@@ -1,0 +1,56 @@
+use native.Mathlib.Omega.{arith}
+use denote.Ref.{now}
+use Rattle.book.specs.Call.Call.{Binder}
+use Rattle.ffi.proofs.Calls.{wrong-size, writing}
+use borrow.Author.Needs.{needs}
+use Rattle.ffi.proofs.reading.bindcricket_binder.Statement.{statement}
+use Rattle.ffi.proofs.reading.bindcricket_binder.Tie as tie
+use Rattle.ffi.proofs.reading.bindcricket_binder.Reads as reads
+use Rattle.ffi.proofs.reading.bindcricket_binder.Lts as lts
+use Rattle.encoding.proofs.codec.decode.Reads as decode-reads
+use Rattle.finished.proofs.binder.binder.Reads as binder-reads
+use Rattle.refusal.proofs.Answer.count.Reads as count-reads
+use Rattle.refusal.proofs.Answer.number.Reads as number-reads
+
+-- src/reading.rt:61:9
+returns : tie.Need-returns
+returns c = let s = c .before .before .before .before in wrong-size (now (s .args .session)) (Binder (now (s .args .hello)) (now (s .args .out))) (now (s .args .out)) (c .if1 .taken)
+
+-- src/reading.rt:63:25
+decode-requires : tie.Need-decode-requires
+decode-requires c κs = search needs
+
+-- src/reading.rt:63:9
+binder-requires : tie.Need-binder-requires
+binder-requires c κs = search needs
+
+-- src/reading.rt:64:16
+count-requires : tie.Need-count-requires
+count-requires c κs = search needs
+
+-- src/reading.rt:65:5
+number-requires : tie.Need-number-requires
+number-requires c κs = search needs
+
+-- src/reading.rt:50:1
+same-length : tie.Need-same-length
+same-length c = search needs
+
+-- src/reading.rt:50:1
+returns-2 : tie.Need-returns-2
+returns-2 c =
+    let s = c .before .before .before .before .before .before .before .before .before .before .before in
+    writing (now (s .args .session)) (Binder (now (s .args .hello)) (now (s .args .out))) (c .before .before .before .before .before .before .before .if1 .left) (λ i. omega (arith, c .before .before .before .before .before .before .before .before .before .before .shared-slice-known .given i))
+    (c .before .before .before .before .before .before .decode .ensures) (now (s .args .out)) _ (c .before .before .before .before .binder .result) (c .number .ensures) (c .before .count .ensures) (c .before .before .before .before .binder .ensures)
+
+pub bindcricket-binder-spec : {M : Type 1} → statement M
+bindcricket-binder-spec =
+    tie.close
+    (tie.spec
+    returns
+    decode-requires
+    binder-requires
+    count-requires
+    number-requires
+    same-length
+    returns-2)

@@ -1,0 +1,56 @@
+use native.Mathlib.Omega.{arith}
+use denote.Ref.{now}
+use Rattle.book.specs.Call.Call.{Finished}
+use Rattle.ffi.proofs.Calls.{wrong-size, writing}
+use borrow.Author.Needs.{needs}
+use Rattle.ffi.proofs.reading.bindcricket_finished.Statement.{statement}
+use Rattle.ffi.proofs.reading.bindcricket_finished.Tie as tie
+use Rattle.ffi.proofs.reading.bindcricket_finished.Reads as reads
+use Rattle.ffi.proofs.reading.bindcricket_finished.Lts as lts
+use Rattle.encoding.proofs.codec.decode.Reads as decode-reads
+use Rattle.finished.proofs.finished.finished.Reads as finished-reads
+use Rattle.refusal.proofs.Answer.count.Reads as count-reads
+use Rattle.refusal.proofs.Answer.number.Reads as number-reads
+
+-- src/reading.rt:43:9
+returns : tie.Need-returns
+returns c = let s = c .before .before .before in wrong-size (now (s .args .session)) (Finished _ (now (s .args .out))) (now (s .args .out)) (c .if1 .taken)
+
+-- src/reading.rt:45:27
+decode-requires : tie.Need-decode-requires
+decode-requires c κs = search needs
+
+-- src/reading.rt:45:9
+finished-requires : tie.Need-finished-requires
+finished-requires c κs = search needs
+
+-- src/reading.rt:46:16
+count-requires : tie.Need-count-requires
+count-requires c κs = search needs
+
+-- src/reading.rt:47:5
+number-requires : tie.Need-number-requires
+number-requires c κs = search needs
+
+-- src/reading.rt:32:1
+same-length : tie.Need-same-length
+same-length c = search needs
+
+-- src/reading.rt:32:1
+returns-2 : tie.Need-returns-2
+returns-2 c =
+    let s = c .before .before .before .before .before .before .before .before .before .before in
+    writing (now (s .args .session)) (Finished _ (now (s .args .out))) (c .before .before .before .before .before .before .before .if1 .left) (λ i. omega (arith, c .before .before .before .before .before .before .before .before .before .shared-slice-known .given i))
+    (c .before .before .before .before .before .before .decode .ensures) (now (s .args .out)) _ (c .before .before .before .before .finished .result) (c .number .ensures) (c .before .count .ensures) (c .before .before .before .before .finished .ensures)
+
+pub bindcricket-finished-spec : {M : Type 1} → statement M
+bindcricket-finished-spec =
+    tie.close
+    (tie.spec
+    returns
+    decode-requires
+    finished-requires
+    count-requires
+    number-requires
+    same-length
+    returns-2)

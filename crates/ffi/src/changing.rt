@@ -1,0 +1,140 @@
+// The calls that may change a session. Each answers its number: 0, a refusal, or 255 for a buffer that does not have a session's
+// size; only where it is 0 is the buffer written.
+use application_stage::application::application;
+use application_stage::complete::complete;
+use application_stage::update::update;
+use encoding::codec::SESSION_BYTES;
+use encoding::codec::decode;
+use encoding::codec::encode;
+use handshake_stage::early::early;
+use handshake_stage::handshake::handshake;
+use session::begin::begin;
+use session::close::close;
+use session::feed::feed;
+use session::record::Outcome;
+use session::record::fresh;
+ghost use mathlib.Core.Path.{_≡_};
+ghost use mathlib.Core.Bool.{cond};
+ghost use mathlib.Core.List.{[]};
+ghost use lib.ListN.{length};
+ghost use lib.Dec.{eqb};
+ghost use Rattle.refusal.specs.Refusal.{number};
+ghost use Rattle.book.specs.Call.{Call};
+ghost use Rattle.encoding.specs.Encoding.{sessionBytes, encoded};
+ghost use Rattle.ffi.specs.Called.{Called, MadeFresh, numbered};
+
+pub const NOT_A_SESSION: u8 = 255;
+
+// Writes the session of an accepted call to its buffer, and answers the call's number.
+fn store(o: Outcome, session: &mut [u8]) -> u8
+    ensures { λ r. ⌜ (r ≡ number (o .answer)) × (now (session .exit) ≡ cond (eqb r 0) (cond (eqb (length (now (session .entry))) sessionBytes) (encoded (o .session)) (now (session .entry))) (now (session .entry))) ⌝ }
+{
+    let answer = o.answer;
+    let n = answer.number();
+    if n != 0 {
+        return n;
+    }
+    let after = o.session;
+    encode(after, session);
+    n
+}
+
+// A fresh session.
+#[no_mangle]
+pub extern "C" fn bindcricket_fresh(session: &mut [u8]) -> u8
+    ensures { λ r. ⌜ MadeFresh (now (session .entry)) (now (session .exit)) r ⌝ }
+{
+    if session.len() != SESSION_BYTES {
+        return NOT_A_SESSION;
+    }
+    encode(fresh(), session);
+    0
+}
+
+#[no_mangle]
+pub extern "C" fn bindcricket_begin(session: &mut [u8], suite: u16, kind: u8, psk: &[u8]) -> u8
+    ensures { λ r. ⌜ Called (now (session .entry)) (Call.Begin suite kind (now (psk .entry))) [] (now (session .exit)) (numbered r) ⌝ }
+{
+    if session.len() != SESSION_BYTES {
+        return NOT_A_SESSION;
+    }
+    let done = begin(decode(session), suite, kind, psk);
+    store(done, session)
+}
+
+#[no_mangle]
+pub extern "C" fn bindcricket_feed(session: &mut [u8], message: &[u8]) -> u8
+    ensures { λ r. ⌜ Called (now (session .entry)) (Call.Feed (now (message .entry))) [] (now (session .exit)) (numbered r) ⌝ }
+{
+    if session.len() != SESSION_BYTES {
+        return NOT_A_SESSION;
+    }
+    let done = feed(decode(session), message);
+    store(done, session)
+}
+
+#[no_mangle]
+pub extern "C" fn bindcricket_early(session: &mut [u8]) -> u8
+    ensures { λ r. ⌜ Called (now (session .entry)) Call.Early [] (now (session .exit)) (numbered r) ⌝ }
+{
+    if session.len() != SESSION_BYTES {
+        return NOT_A_SESSION;
+    }
+    let done = early(decode(session));
+    store(done, session)
+}
+
+#[no_mangle]
+pub extern "C" fn bindcricket_handshake(session: &mut [u8], group: u16, secret: &[u8]) -> u8
+    ensures { λ r. ⌜ Called (now (session .entry)) (Call.Handshake group (now (secret .entry))) [] (now (session .exit)) (numbered r) ⌝ }
+{
+    if session.len() != SESSION_BYTES {
+        return NOT_A_SESSION;
+    }
+    let done = handshake(decode(session), group, secret);
+    store(done, session)
+}
+
+#[no_mangle]
+pub extern "C" fn bindcricket_application(session: &mut [u8]) -> u8
+    ensures { λ r. ⌜ Called (now (session .entry)) Call.Application [] (now (session .exit)) (numbered r) ⌝ }
+{
+    if session.len() != SESSION_BYTES {
+        return NOT_A_SESSION;
+    }
+    let done = application(decode(session));
+    store(done, session)
+}
+
+#[no_mangle]
+pub extern "C" fn bindcricket_complete(session: &mut [u8]) -> u8
+    ensures { λ r. ⌜ Called (now (session .entry)) Call.Complete [] (now (session .exit)) (numbered r) ⌝ }
+{
+    if session.len() != SESSION_BYTES {
+        return NOT_A_SESSION;
+    }
+    let done = complete(decode(session));
+    store(done, session)
+}
+
+#[no_mangle]
+pub extern "C" fn bindcricket_update(session: &mut [u8], side: u8) -> u8
+    ensures { λ r. ⌜ Called (now (session .entry)) (Call.Update side) [] (now (session .exit)) (numbered r) ⌝ }
+{
+    if session.len() != SESSION_BYTES {
+        return NOT_A_SESSION;
+    }
+    let done = update(decode(session), side);
+    store(done, session)
+}
+
+#[no_mangle]
+pub extern "C" fn bindcricket_close(session: &mut [u8]) -> u8
+    ensures { λ r. ⌜ Called (now (session .entry)) Call.Close [] (now (session .exit)) (numbered r) ⌝ }
+{
+    if session.len() != SESSION_BYTES {
+        return NOT_A_SESSION;
+    }
+    let done = close(decode(session));
+    store(done, session)
+}

@@ -1,0 +1,101 @@
+// The calls that only read a session. Each answers its number, with what it wrote reported beside it.
+use super::changing::NOT_A_SESSION;
+use encoding::codec::SESSION_BYTES;
+use encoding::codec::decode;
+use finished::binder::binder;
+use finished::check::check;
+use finished::finished::finished;
+use outputs::export::export;
+use outputs::keys::keys;
+ghost use mathlib.Core.List.{[]};
+ghost use Rattle.book.specs.Call.{Call};
+ghost use Rattle.ffi.specs.Called.{Called, counted, judging};
+
+#[no_mangle]
+pub extern "C" fn bindcricket_keys(
+    session: &[u8],
+    name: u8,
+    out: &mut [u8],
+    written: &mut usize,
+) -> u8
+    ensures { λ r. ⌜ Called (now (session .entry)) (Call.Keys name (now (out .entry))) (now (out .entry)) (now (session .entry)) (counted r (now (written .exit)) (now (out .exit))) ⌝ }
+{
+    if session.len() != SESSION_BYTES {
+        *written = 0;
+        return NOT_A_SESSION;
+    }
+    let answer = keys(decode(session), name, out);
+    *written = answer.count();
+    answer.number()
+}
+
+#[no_mangle]
+pub extern "C" fn bindcricket_finished(
+    session: &[u8],
+    side: u8,
+    out: &mut [u8],
+    written: &mut usize,
+) -> u8
+    ensures { λ r. ⌜ Called (now (session .entry)) (Call.Finished side (now (out .entry))) (now (out .entry)) (now (session .entry)) (counted r (now (written .exit)) (now (out .exit))) ⌝ }
+{
+    if session.len() != SESSION_BYTES {
+        *written = 0;
+        return NOT_A_SESSION;
+    }
+    let answer = finished(decode(session), side, out);
+    *written = answer.count();
+    answer.number()
+}
+
+#[no_mangle]
+pub extern "C" fn bindcricket_binder(
+    session: &[u8],
+    hello: &[u8],
+    out: &mut [u8],
+    written: &mut usize,
+) -> u8
+    ensures { λ r. ⌜ Called (now (session .entry)) (Call.Binder (now (hello .entry)) (now (out .entry))) (now (out .entry)) (now (session .entry)) (counted r (now (written .exit)) (now (out .exit))) ⌝ }
+{
+    if session.len() != SESSION_BYTES {
+        *written = 0;
+        return NOT_A_SESSION;
+    }
+    let answer = binder(decode(session), hello, out);
+    *written = answer.count();
+    answer.number()
+}
+
+#[no_mangle]
+pub extern "C" fn bindcricket_export(
+    session: &[u8],
+    name: u8,
+    label: &[u8],
+    context: &[u8],
+    asked: usize,
+    out: &mut [u8],
+    written: &mut usize,
+) -> u8
+    ensures { λ r. ⌜ Called (now (session .entry)) (Call.Export name (now (label .entry)) (now (context .entry)) asked (now (out .entry))) (now (out .entry)) (now (session .entry)) (counted r (now (written .exit)) (now (out .exit))) ⌝ }
+{
+    if session.len() != SESSION_BYTES {
+        *written = 0;
+        return NOT_A_SESSION;
+    }
+    let answer = export(decode(session), name, label, context, asked, out);
+    *written = answer.count();
+    answer.number()
+}
+
+// yes becomes 1 where the verdict is yes, else 0.
+#[no_mangle]
+pub extern "C" fn bindcricket_check(session: &[u8], side: u8, received: &[u8], yes: &mut u8) -> u8
+    ensures { λ r. ⌜ Called (now (session .entry)) (Call.Check side (now (received .entry))) [] (now (session .entry)) (judging r (now (yes .exit))) ⌝ }
+{
+    if session.len() != SESSION_BYTES {
+        *yes = 0;
+        return NOT_A_SESSION;
+    }
+    let verdict = check(decode(session), side, received);
+    *yes = verdict.is_yes() as u8;
+    verdict.number()
+}
