@@ -1,8 +1,8 @@
 // What every derivation shares: Derive-Secret given the hash of the messages.
+use empty::empty_digest;
 use hmac::Keyed;
 use keyed::label_block;
 use keyed::ready;
-use oneshot::digest;
 use suite::Suite;
 ghost use mathlib.Core.Path.{_≡_};
 ghost use mathlib.Core.List.{[]};
@@ -25,6 +25,6 @@ pub(crate) fn over_nothing(suite: u16, secret: [u8; 48], label: &[u8]) -> [u8; 4
     ensures { λ r. ⌜ r ≡ labelBlock suite (keyedOf suite (take (hashLen suite) secret)) (now (label .entry)) (hash suite []) (hashLen suite) ⌝ }
 {
     let k = ready(suite, secret);
-    let nothing = digest(suite, b"");
+    let nothing = empty_digest(suite);
     derive(suite, k, label, nothing)
 }
