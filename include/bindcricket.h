@@ -44,10 +44,10 @@ enum {
     BINDCRICKET_MESSAGE_LENGTH = 7,     /* message or cut ClientHello of a wrong length, or a wrong length field */
     BINDCRICKET_MESSAGE_TYPE = 8,       /* message type not taken here; cut ClientHello that does not start with 1 */
     BINDCRICKET_INPUT_TOO_LONG = 9,     /* transcript, hash input, HMAC message or Extract input over its limit */
-    BINDCRICKET_OUT_OF_RANGE = 10,      /* label, context, info or asked length outside its range */
+    BINDCRICKET_OUT_OF_RANGE = 10,      /* label, context, info or asked length outside its range; journal payload too long */
     BINDCRICKET_OUTPUT_TOO_SHORT = 11,  /* `out` too short */
     BINDCRICKET_TOO_MANY_UPDATES = 12,  /* 65,535 updates made on that side */
-    BINDCRICKET_DAMAGED_RECORD = 13,    /* journal record damaged; no function below gives it */
+    BINDCRICKET_DAMAGED_RECORD = 13,    /* journal record damaged */
     BINDCRICKET_NOT_A_SESSION = 255     /* session_size is not BINDCRICKET_SESSION_BYTES */
 };
 
@@ -172,6 +172,34 @@ uint8_t bindcricket_expand_label(uint16_t suite, const uint8_t *secret, size_t s
 uint8_t bindcricket_derive_secret(uint16_t suite, const uint8_t *secret, size_t secret_size, const uint8_t *label,
                                   size_t label_size, const uint8_t *messages, size_t messages_size, uint8_t *out,
                                   size_t out_size, size_t *written);
+
+/* ---- The journal: records of a payload length (4 bytes), a kind (2 bytes) and a payload, numbers low byte first ---- */
+
+/* The kinds of records; 0 stands for an end. */
+enum {
+    BINDCRICKET_RECORD_NONE = 0,
+    BINDCRICKET_RECORD_BEGIN = 1, /* payload: suite 2 bytes, PSK kind 1, PSK */
+    BINDCRICKET_RECORD_FEED = 2,  /* payload: message */
+    BINDCRICKET_RECORD_EARLY = 3,
+    BINDCRICKET_RECORD_HANDSHAKE = 4, /* payload: group 2 bytes, shared secret */
+    BINDCRICKET_RECORD_APPLICATION = 5,
+    BINDCRICKET_RECORD_COMPLETE = 6,
+    BINDCRICKET_RECORD_UPDATE = 7, /* payload: side 1 byte */
+    BINDCRICKET_RECORD_CLOSE = 8
+};
+
+/* Writes the record of a call: its kind; the suite of a Begin or the group of a Handshake as `number`; the PSK kind of a
+ * Begin or the side of an Update as `small`; and the PSK, message or shared secret as `body`. What a kind does not have is
+ * not looked at. Any such call can be written, whether or not a session would take it. Refusals 2 (kind), 10 (a payload
+ * over 65,535 bytes), 11. */
+uint8_t bindcricket_journal_write(uint16_t kind, uint16_t number, uint8_t small, const uint8_t *body, size_t body_size,
+                                  uint8_t *out, size_t out_size, size_t *written);
+
+/* Reads the record at an offset of a journal: its kind, where its payload starts, the payload's size, and the offset of
+ * the next record. At the end of the journal and behind it the answer is 0 and `*kind` 0. A damaged record is answered 13.
+ * Where there is no good record, all four are 0. */
+uint8_t bindcricket_journal_read(const uint8_t *journal, size_t journal_size, size_t place, uint16_t *kind, size_t *start,
+                                 size_t *size, size_t *next);
 
 /* ---- The stack ---- */
 
