@@ -1,4 +1,4 @@
-/* Bindcricket: the key schedule of TLS 1.3 (RFC 8446, section 7), for C99 and C++. Link target/staticlib/libffi.a, which
+/* Bindcricket: the key schedule of TLS 1.3 (RFC 8446, section 7) and a journal of its calls, for C99 and C++. Link target/staticlib/libffi.a, which
  * `rt staticlib ffi` makes, by its path (`-lffi` is another library).
  *
  * Every function answers a number: 0 is done, 1 to 13 are the refusals below, 255 says that the session buffer does not
@@ -36,7 +36,7 @@ extern "C" {
 enum {
     BINDCRICKET_DONE = 0,
     BINDCRICKET_NOT_ALLOWED_HERE = 1,   /* the call is not allowed at this point of the session */
-    BINDCRICKET_UNKNOWN = 2,            /* unknown suite, PSK kind, group, side or name */
+    BINDCRICKET_UNKNOWN = 2,            /* unknown suite, PSK kind, group, side, name or record kind */
     BINDCRICKET_NOT_HELD = 3,           /* the secret asked for is not held; Early or Binder without a PSK */
     BINDCRICKET_SECRET_SIZE = 4,        /* a PSK, shared secret, HMAC key, salt or Expand secret of a wrong size */
     BINDCRICKET_ZERO_SHARED_SECRET = 5, /* a shared secret of zeros, groups 001D and 001E */
@@ -190,7 +190,7 @@ enum {
 
 /* Writes the record of a call: its kind; the suite of a Begin or the group of a Handshake as `number`; the PSK kind of a
  * Begin or the side of an Update as `small`; and the PSK, message or shared secret as `body`. What a kind does not have is
- * not looked at. Any such call can be written, whether or not a session would take it. Refusals 2 (kind), 10 (a payload
+ * not read. Any such call can be written, whether or not a session would take it. Refusals 2 (kind), 10 (a payload
  * over 65,535 bytes), 11. */
 uint8_t bindcricket_journal_write(uint16_t kind, uint16_t number, uint8_t small, const uint8_t *body, size_t body_size,
                                   uint8_t *out, size_t out_size, size_t *written);

@@ -1,11 +1,12 @@
 /* Drives the library through bindcricket.h: the traces of RFC 8448, every call in every state of a session, each
- * refusal, sessions that are moved or that no call made, and the papers' examples. C99, and C++11 as well.
+ * refusal, the journal, sessions that are moved or that no call made, and the papers' examples. C99, and C++11 as well.
  *
  * Every session call is made with three wrong sizes too. Guard bytes stand around the session and the output, and the
  * output is filled with A5. */
 #include "bindcricket.h"
 #include "rfc8448.h"
 #include <stdio.h>
+#include <stdlib.h>
 #include <string.h>
 
 #define SIZE BINDCRICKET_SESSION_BYTES
@@ -71,7 +72,7 @@ static void expect_all(const char *what, uint8_t expected, const uint8_t *got, s
 
 enum call {
     FRESH, BEGIN, FEED, EARLY, HANDSHAKE, APPLICATION, COMPLETE, UPDATE, CLOSE, KEYS, FINISHED, CHECK, BINDER, EXPORT,
-    HASH, HMAC, EXTRACT, EXPAND, EXPAND_LABEL, DERIVE_SECRET, CALLS
+    HASH, HMAC, EXTRACT, EXPAND, EXPAND_LABEL, DERIVE_SECRET, JOURNAL_WRITE, JOURNAL_READ, CALLS
 };
 
 /* The numbers that each call can give beside 0, as the header says. */
@@ -83,18 +84,23 @@ static const struct {
     {"application", {1}}, {"complete", {1}}, {"update", {1, 2, 12}}, {"close", {0}}, {"keys", {1, 2, 3, 11}},
     {"finished", {1, 2, 11}}, {"check", {1, 2}}, {"binder", {1, 3, 7, 8, 11}}, {"export", {1, 2, 3, 10, 11}},
     {"hash", {2, 9, 11}}, {"hmac", {2, 4, 9, 11}}, {"extract", {2, 4, 9, 11}}, {"expand", {2, 4, 10, 11}},
-    {"expand_label", {2, 4, 10, 11}}, {"derive_secret", {2, 4, 9, 10, 11}}
+    {"expand_label", {2, 4, 10, 11}}, {"derive_secret", {2, 4, 9, 10, 11}}, {"journal_write", {2, 10, 11}},
+    {"journal_read", {13}}
 };
 static unsigned seen[CALLS]; /* bit n: the number n was given; bit 31: NOT_A_SESSION */
 
-/* What an accepted call may change: the session, the verdict or the output. */
-enum effect { CHANGES, JUDGES, WRITES };
+/* What an accepted call may change: the session, the verdict, the output, or what was read of the journal. */
+enum effect { CHANGES, JUDGES, WRITES, READS };
 
 static uint8_t arena[GUARD + 7 + SIZE + GUARD], arena_before[sizeof arena];
 static uint8_t *session = arena + GUARD;
 static uint8_t lent[GUARD + 70000 + GUARD], *const out = lent + GUARD;
 static size_t room, written;
 static uint8_t yes;
+static struct {
+    uint16_t kind;
+    size_t start, size, next;
+} reading;
 static uint8_t wire[LONGEST + 2];
 static uint8_t zeros[2097153];
 
@@ -125,6 +131,8 @@ static void before(void)
     memcpy(arena_before, arena, sizeof arena);
     written = 12345;
     yes = 77;
+    reading.kind = 12345;
+    reading.start = reading.size = reading.next = 12345;
 }
 
 /* Judges the call just made: its number, what it changed, and the count of bytes that it should have written. */
@@ -290,6 +298,34 @@ static void derive_secret(unsigned expected, uint16_t suite, const uint8_t *secr
     MAKE_BELOW(DERIVE_SECRET, expected, count,
                bindcricket_derive_secret(suite, secret, secret_size, label, label_size, messages, messages_size,
                                          lend(size), size, &written));
+}
+
+static void journal_write(unsigned expected, uint16_t kind, uint16_t number, uint8_t small, const uint8_t *body,
+                          size_t body_size, size_t size, size_t count)
+{
+    MAKE_BELOW(JOURNAL_WRITE, expected, count,
+               bindcricket_journal_write(kind, number, small, body, body_size, lend(size), size, &written));
+}
+
+/* Reads a journal at a place, where a record of a kind and payload size is expected, or none (kind 0). The journal ends
+ * where its block does, so that valgrind sees a byte that is read behind it. */
+static void journal_read(unsigned expected, const uint8_t *journal, size_t journal_size, size_t place, uint16_t kind,
+                         size_t size)
+{
+    uint8_t *block = (uint8_t *)malloc(1 + journal_size), *lent_journal = block + 1;
+    if (!block)
+        abort();
+    memcpy(lent_journal, journal, journal_size);
+    before();
+    after(JOURNAL_READ, READS, expected, 0,
+          bindcricket_journal_read(lent_journal, journal_size, place, &reading.kind, &reading.start, &reading.size,
+                                   &reading.next));
+    expect("kind", kind, reading.kind);
+    expect("start", kind ? (unsigned long)place + 6 : 0, (unsigned long)reading.start);
+    expect("size", kind ? (unsigned long)size : 0, (unsigned long)reading.size);
+    expect("next", kind ? (unsigned long)(place + 6 + size) : 0, (unsigned long)reading.next);
+    expect_bytes("the journal", journal, lent_journal, journal_size);
+    free(block);
 }
 
 /* ---- Inputs ---- */
@@ -831,6 +867,270 @@ static void every_state(uint16_t suite, uint8_t kind)
     }
 }
 
+/* ---- The journal ---- */
+
+#define HEADER 6
+
+/* What is given to the writer, and the record by the paper. A kind is also given what it does not have; the body of one
+ * Feed is itself a record. */
+static const struct {
+    uint16_t kind, number;
+    uint8_t small;
+    const char *body, *record;
+} records[] = {
+    {BINDCRICKET_RECORD_BEGIN, 0x1301, BINDCRICKET_PSK_NONE, "", "030000000100" "011300"},
+    {BINDCRICKET_RECORD_BEGIN, 0x1302, BINDCRICKET_PSK_EXTERNAL, "a0a1a2a3", "070000000100" "021301a0a1a2a3"},
+    {BINDCRICKET_RECORD_BEGIN, 0xFEDC, 0xBA, "98", "040000000100" "dcfeba98"},
+    {BINDCRICKET_RECORD_FEED, 0x1234, 0x56, "", "000000000200"},
+    {BINDCRICKET_RECORD_FEED, 0x1234, 0x56, "01000002abcd", "060000000200" "01000002abcd"},
+    {BINDCRICKET_RECORD_FEED, 0, 0, "01000000070002", "070000000200" "01000000070002"},
+    {BINDCRICKET_RECORD_EARLY, 0x1234, 0x56, "789abc", "000000000300"},
+    {BINDCRICKET_RECORD_HANDSHAKE, BINDCRICKET_X25519, 0x56, "c0c1c2", "050000000400" "1d00c0c1c2"},
+    {BINDCRICKET_RECORD_HANDSHAKE, BINDCRICKET_NO_GROUP, 0x56, "", "020000000400" "0000"},
+    {BINDCRICKET_RECORD_HANDSHAKE, 0xFEDC, 0, "ba", "030000000400" "dcfeba"},
+    {BINDCRICKET_RECORD_APPLICATION, 0x1234, 0x56, "789abc", "000000000500"},
+    {BINDCRICKET_RECORD_COMPLETE, 0x1234, 0x56, "789abc", "000000000600"},
+    {BINDCRICKET_RECORD_UPDATE, 0x1234, BINDCRICKET_SERVER, "789abc", "010000000700" "02"},
+    {BINDCRICKET_RECORD_UPDATE, 0, 0xFF, "", "010000000700" "ff"},
+    {BINDCRICKET_RECORD_CLOSE, 0x1234, 0x56, "789abc", "000000000800"}
+};
+#define RECORDS COUNT(records)
+#define RECORD_INSIDE 5
+
+/* Has room for a payload that is one byte too long, and for records before it. */
+static uint8_t journal[1024 + HEADER + LONGEST + 1];
+
+/* The bytes of a kind's payload before its body. */
+static size_t front_size(uint16_t kind)
+{
+    if (kind == BINDCRICKET_RECORD_BEGIN)
+        return 3;
+    if (kind == BINDCRICKET_RECORD_HANDSHAKE)
+        return 2;
+    return kind == BINDCRICKET_RECORD_UPDATE ? 1 : 0;
+}
+
+static int has_body(uint16_t kind)
+{
+    return kind == BINDCRICKET_RECORD_BEGIN || kind == BINDCRICKET_RECORD_FEED || kind == BINDCRICKET_RECORD_HANDSHAKE;
+}
+
+static void put_header(size_t place, unsigned long length, uint16_t kind)
+{
+    size_t i;
+    for (i = 0; i < 4; i++)
+        journal[place + i] = (uint8_t)(length >> 8 * i);
+    journal[place + 4] = (uint8_t)kind;
+    journal[place + 5] = (uint8_t)(kind >> 8);
+}
+
+/* Puts the record of a call at a place of the journal, by the paper, and gives the size of its payload. */
+static size_t put_record(size_t place, uint16_t kind, uint16_t number, uint8_t small, const uint8_t *body, size_t size)
+{
+    uint8_t *payload = journal + place + HEADER;
+    size_t front = front_size(kind), length = front + (has_body(kind) ? size : 0);
+    put_header(place, (unsigned long)length, kind);
+    if (front >= 2) {
+        payload[0] = (uint8_t)number;
+        payload[1] = (uint8_t)(number >> 8);
+    }
+    if (front % 2)
+        payload[front - 1] = small;
+    memcpy(payload + front, body, length - front);
+    return length;
+}
+
+/* Reads a good record of the journal and writes the call that it holds: its bytes again. */
+static void round_trip(size_t journal_size, size_t place, uint16_t kind, size_t size)
+{
+    const uint8_t *payload = journal + place + HEADER;
+    size_t front = front_size(kind);
+    uint16_t number = (uint16_t)(front >= 2 ? payload[0] + 256 * payload[1] : 0);
+    uint8_t small = front % 2 ? payload[front - 1] : 0;
+    journal_read(0, journal, journal_size, place, kind, size);
+    journal_write(0, kind, number, small, payload + front, size - front, HEADER + size, HEADER + size);
+    expect_bytes("the record again", journal + place, out, HEADER + size);
+}
+
+static void each_record(void)
+{
+    struct bytes body, record;
+    uint16_t kind, number;
+    uint8_t small;
+    size_t i;
+    start_group("journal, each kind");
+    for (i = 0; i < RECORDS; i++) {
+        kind = records[i].kind;
+        number = records[i].number;
+        small = records[i].small;
+        body = unhex(records[i].body);
+        record = unhex(records[i].record);
+        journal_write(11, kind, number, small, body.at, body.size, 0, 0);
+        journal_write(11, kind, number, small, body.at, body.size, record.size - 1, 0);
+        journal_write(0, kind, number, small, body.at, body.size, record.size, record.size);
+        expect_bytes("record", record.at, out, record.size);
+        journal_write(0, kind, number, small, body.at, body.size, record.size + 9, record.size);
+        expect_bytes("record, with more room", record.at, out, record.size);
+    }
+}
+
+/* Places at the end of a journal and behind it. */
+static void ends(size_t size)
+{
+    size_t i;
+    for (i = 0; i < 9; i++) {
+        journal_read(0, journal, size, size + i, 0, 0);
+        journal_read(0, journal, size, (size_t)-1 - i, 0, 0);
+        journal_read(0, journal, size, (size_t)-1 / 2 + i, 0, 0);
+    }
+}
+
+/* All records in a row, whole and cut at every byte. */
+static void records_in_a_row(void)
+{
+    size_t places[RECORDS + 1], i, size, cut, inside;
+    struct bytes record;
+    places[0] = 0;
+    for (i = 0; i < RECORDS; i++) {
+        record = unhex(records[i].record);
+        memcpy(journal + places[i], record.at, record.size);
+        places[i + 1] = places[i] + record.size;
+    }
+    size = places[RECORDS];
+    start_group("journal, records in a row");
+    for (i = 0; i < RECORDS; i++)
+        round_trip(size, places[i], records[i].kind, places[i + 1] - places[i] - HEADER);
+    start_group("journal, cut");
+    for (cut = 0; cut <= size; cut++) {
+        for (i = 0; i < RECORDS; i++)
+            if (places[i + 1] <= cut)
+                journal_read(0, journal, cut, places[i], records[i].kind, places[i + 1] - places[i] - HEADER);
+            else
+                journal_read(places[i] < cut ? 13 : 0, journal, cut, places[i], 0, 0);
+        ends(cut);
+    }
+    start_group("journal, inside a record");
+    inside = places[RECORD_INSIDE] + HEADER;
+    journal_read(0, journal, size, inside, BINDCRICKET_RECORD_UPDATE, 1);
+    journal_read(0, journal, inside + HEADER + 1, inside, BINDCRICKET_RECORD_UPDATE, 1);
+    journal_read(13, journal, inside + HEADER, inside, 0, 0);
+    journal_read(13, journal, size, inside - 1, 0, 0);
+    journal_read(13, journal, size, inside + 1, 0, 0);
+    start_group("journal, example of the paper");
+    memcpy(journal, "\x03\0\0\0\x01\0\x01\x13\0\0\0\0\0\x03\0", 15);
+    round_trip(15, 0, BINDCRICKET_RECORD_BEGIN, 3);
+    round_trip(15, 9, BINDCRICKET_RECORD_EARLY, 0);
+    journal_read(0, journal, 15, 15, 0, 0);
+}
+
+static void any_records(void)
+{
+    uint16_t kind, number;
+    uint8_t small, body[300];
+    size_t i, place, size;
+    start_group("journal, arbitrary calls");
+    for (i = 0; i < 400; i++) {
+        kind = (uint16_t)(1 + i % 8);
+        number = (uint16_t)noise();
+        small = (uint8_t)noise();
+        fill_with_noise(body, sizeof body);
+        place = noise() % 99;
+        size = noise() % sizeof body;
+        fill_with_noise(journal, place);
+        journal_write(0, kind, number, small, body, size, 400, HEADER + front_size(kind) + (has_body(kind) ? size : 0));
+        size = put_record(place, kind, number, small, body, size);
+        expect_bytes("record", journal + place, out, HEADER + size);
+        round_trip(place + HEADER + size + i % 3, place, kind, size);
+    }
+}
+
+/* Payloads of 65,535 bytes and of one more; where a kind has no body, its size does not count. */
+static void longest_records(void)
+{
+    uint16_t kind;
+    size_t most, size, place;
+    start_group("journal, payloads of 65,535 bytes");
+    fill_with_noise(wire, sizeof wire);
+    for (kind = 1; kind <= 8; kind++) {
+        if (!has_body(kind)) {
+            size = HEADER + front_size(kind);
+            journal_write(11, kind, 0x1303, 2, zeros, sizeof zeros, size - 1, 0);
+            journal_write(0, kind, 0x1303, 2, zeros, sizeof zeros, size, size);
+            continue;
+        }
+        most = LONGEST - front_size(kind);
+        size = HEADER + LONGEST;
+        journal_write(10, kind, 0x1303, 2, wire, most + 1, 0, 0);
+        journal_write(10, kind, 0x1303, 2, wire, most + 1, size, 0);
+        journal_write(10, kind, 0x1303, 2, wire, most + 1, size + 1, 0);
+        journal_write(10, kind, 0x1303, 2, zeros, sizeof zeros, size + 1, 0);
+        journal_write(11, kind, 0x1303, 2, wire, most, 0, 0);
+        journal_write(11, kind, 0x1303, 2, wire, most, size - 1, 0);
+        journal_write(0, kind, 0x1303, 2, wire, most, size + 1, size);
+        journal_write(0, kind, 0x1303, 2, wire, most, size, size);
+        for (place = 0; place < 1024; place += 500) {
+            put_record(place, kind, 0x1303, 2, wire, most);
+            expect_bytes("record", journal + place, out, size);
+            journal_read(13, journal, place + size - 1, place, 0, 0);
+            journal_read(0, journal, place + size, place, kind, LONGEST);
+            round_trip(place + size + 1, place, kind, LONGEST);
+            put_header(place, LONGEST + 1, kind);
+            journal_read(13, journal, place + size, place, 0, 0);
+            journal_read(13, journal, place + size + 1, place, 0, 0);
+        }
+    }
+}
+
+static void unknown_kinds(void)
+{
+    static const uint16_t unknown[] = {0, 9, 12, 0x00FF, 0x0100, 0x0101, 0x0108, 0x0200, 0x0800, 0x8003, 0xFFFF};
+    size_t i, size;
+    start_group("journal, unknown kinds");
+    for (i = 0; i < COUNT(unknown); i++) {
+        journal_write(2, unknown[i], 0x1301, 1, zeros, 0, 99, 0);
+        journal_write(2, unknown[i], 0x1301, 1, zeros, 7, 99, 0);
+        journal_write(2, unknown[i], 0x1301, 1, zeros, 7, 0, 0);
+        journal_write(2, unknown[i], 0x1301, 1, zeros, LONGEST + 1, 99, 0);
+        journal_write(2, unknown[i], 0x1301, 1, zeros, sizeof zeros, 0, 0);
+        for (size = 0; size < 9; size++) {
+            put_header(0, (unsigned long)size, unknown[i]);
+            journal_read(13, journal, HEADER + size, 0, 0, 0);
+            journal_read(13, journal, sizeof journal, 0, 0, 0);
+        }
+    }
+}
+
+/* Records with lengths that do not fit their kind, the limit or the journal. */
+static void damaged_records(void)
+{
+    /* whether payloads of 0 to 4 bytes are good, for each kind */
+    static const char *const good[] = {"", "00011", "11111", "10000", "00111", "10000", "10000", "01000", "10000"};
+    static const unsigned long lengths[] = {0x10000, 0x10001, 0x10003, 0x20000, 0x1000000, 0x1000001, 0x1000003,
+                                            0x7FFFFFFF, 0x80000000, 0xFFFF0003, 0xFFFFFFFA, 0xFFFFFFFF};
+    size_t i, place, size, second = HEADER + 3;
+    uint16_t kind;
+    start_group("journal, damaged records");
+    put_record(0, BINDCRICKET_RECORD_BEGIN, 0x1305, 0, zeros, 0);
+    for (kind = 1; kind <= 8; kind++)
+        for (size = 0; size < 5; size++) {
+            put_header(second, (unsigned long)size, kind);
+            memset(journal + second + HEADER, 1, 9);
+            for (i = 0; i < 9; i++)
+                if (i < size || good[kind][size] == '0')
+                    journal_read(13, journal, second + HEADER + i, second, 0, 0);
+                else
+                    round_trip(second + HEADER + i, second, kind, size);
+            round_trip(second + HEADER, 0, BINDCRICKET_RECORD_BEGIN, 3);
+        }
+    for (place = 0; place <= second; place += second)
+        for (kind = 1; kind <= 8; kind++)
+            for (i = 0; i < COUNT(lengths); i++) {
+                put_header(place, lengths[i], kind);
+                journal_read(13, journal, place + HEADER, place, 0, 0);
+                journal_read(13, journal, sizeof journal, place, 0, 0);
+            }
+}
+
 /* ---- Refusals that an argument leads to; where several apply, the lowest ---- */
 
 static void refused_begin(void)
@@ -1151,6 +1451,12 @@ int main(void)
     refused_outputs(0x1302);
     refused_below(0x1301);
     refused_below(0x1302);
+    each_record();
+    records_in_a_row();
+    any_records();
+    longest_records();
+    unknown_kinds();
+    damaged_records();
     numbers_given();
     any_sessions();
     printf("c: %lu checks, %lu failed\n", checks, failed);

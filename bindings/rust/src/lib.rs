@@ -77,6 +77,10 @@
 //! # }
 //! ```
 //!
+//! # The journal
+//!
+//! The calls of a session can be written as bytes and read back: see [`journal`].
+//!
 //! # Secrets in memory
 //!
 //! A [`Session`] and the values that it hands out ([`TrafficKeys`], [`HashValue`]) lie on the heap,
@@ -89,6 +93,7 @@
 
 extern crate alloc;
 
+pub mod journal;
 mod lower;
 mod names;
 mod refusal;

@@ -29,13 +29,15 @@ pub enum Refusal {
     MessageType = 8,
     /// A transcript, hash input, HMAC message or Extract input over its limit.
     InputTooLong = 9,
-    /// A label, context, info or asked length outside its range.
+    /// A label, context, info or asked length outside its range; a journal payload over 65,535
+    /// bytes.
     OutOfRange = 10,
     /// The output is too short.
     OutputTooShort = 11,
     /// 65,535 updates were made on that side.
     TooManyUpdates = 12,
-    /// A damaged record of a journal. The calls of this crate read no journal and do not give it.
+    /// A damaged record of a journal. The reader gives [`Damaged`](crate::journal::Damaged), which
+    /// says where, and which becomes this.
     DamagedRecord = 13,
 }
 
@@ -92,7 +94,9 @@ impl fmt::Display for Refusal {
             }
             Self::MessageType => "a handshake message of this type is not taken here",
             Self::InputTooLong => "the input, or all messages together, are over their limit",
-            Self::OutOfRange => "the label, context, info or asked length is outside its range",
+            Self::OutOfRange => {
+                "the label, context, info, asked length or journal payload is outside its range"
+            }
             Self::OutputTooShort => "the output buffer is too short",
             Self::TooManyUpdates => {
                 "the keys of this side were updated 65,535 times: set up a new connection"

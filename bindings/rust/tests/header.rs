@@ -1,5 +1,6 @@
 //! The crate and the C header say the same: every declaration, and every number.
 
+use bindcricket::journal::Record;
 use bindcricket::{Exporter, Group, KeyName, Refusal, Side, Suite};
 
 const HEADER: &str = include_str!("../../../include/bindcricket.h");
@@ -58,7 +59,7 @@ fn from_crate() -> Vec<String> {
 #[test]
 fn declarations() {
     assert_eq!(from_crate(), from_header());
-    assert_eq!(from_header().len(), 20);
+    assert_eq!(from_header().len(), 22);
 }
 
 /// The number of a constant in the header.
@@ -131,7 +132,31 @@ fn numbers() {
         ("EXPORTER_EARLY", Exporter::Early as u16),
         ("EXPORTER", Exporter::Regular as u16),
         ("SESSION_BYTES", 696),
+        ("RECORD_NONE", 0),
     ] {
         assert_eq!(number(name), value, "{name}");
     }
+}
+
+/// The kinds of records, as they are written.
+#[test]
+fn kinds() -> Result<(), Refusal> {
+    let (suite, kind, psk) = (0x1301, 0, &[][..]);
+    let (group, secret) = (0, &[][..]);
+    for (name, record) in [
+        ("BEGIN", Record::Begin { suite, kind, psk }),
+        ("FEED", Record::Feed(&[])),
+        ("EARLY", Record::Early),
+        ("HANDSHAKE", Record::Handshake { group, secret }),
+        ("APPLICATION", Record::Application),
+        ("COMPLETE", Record::Complete),
+        ("UPDATE", Record::Update { side: 1 }),
+        ("CLOSE", Record::Close),
+    ] {
+        let mut out = [0; 9];
+        let written = record.write(&mut out)?;
+        let kind = u16::from_le_bytes([written[4], written[5]]);
+        assert_eq!(number(&format!("RECORD_{name}")), kind, "{name}");
+    }
+    Ok(())
 }

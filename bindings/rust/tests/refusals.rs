@@ -1,4 +1,5 @@
-//! Every refusal that can be expressed, and that a refused call changes nothing.
+//! Every refusal that can be expressed, but for the journal's, and that a refused call changes
+//! nothing.
 
 mod steps;
 

@@ -6,6 +6,7 @@
 
 mod steps;
 
+use bindcricket::journal::{self, Record};
 use bindcricket::{
     derive_secret_into, expand, expand_label, extract_into, hash_into, hmac_into, Exporter, Group,
     KeyName, Refusal, Session, Side, Suite, STACK_BYTES,
@@ -134,6 +135,31 @@ fn functions() {
         clean("derive_secret", suite, || {
             derive_secret_into(suite, secret, b"label", &input, &mut out).map(drop)
         });
+    }
+}
+
+/// The journal's two functions use less stack than `TOP`, so this cannot tell whether that is
+/// cleared. It would see a copy of the body, were one made on the stack and left there.
+#[test]
+fn journal_calls() {
+    for suite in Suite::ALL {
+        let (mut out, bytes) = ([0; 400], [7; 300]);
+        for record in [
+            Record::Begin {
+                suite: suite.number(),
+                kind: 1,
+                psk: &bytes,
+            },
+            Record::Handshake {
+                group: Group::X25519.number(),
+                secret: &bytes,
+            },
+        ] {
+            clean("journal write", suite, || record.write(&mut out).map(drop));
+            clean("journal read", suite, || {
+                Ok(journal::read(&out, 0).map(drop)?)
+            });
+        }
     }
 }
 

@@ -139,4 +139,23 @@ extern "C" {
         out_size: usize,
         written: *mut usize,
     ) -> u8;
+    pub(super) fn bindcricket_journal_write(
+        kind: u16,
+        number: u16,
+        small: u8,
+        body: *const u8,
+        body_size: usize,
+        out: *mut u8,
+        out_size: usize,
+        written: *mut usize,
+    ) -> u8;
+    pub(super) fn bindcricket_journal_read(
+        journal: *const u8,
+        journal_size: usize,
+        place: usize,
+        kind: *mut u16,
+        start: *mut usize,
+        size: *mut usize,
+        next: *mut usize,
+    ) -> u8;
 }

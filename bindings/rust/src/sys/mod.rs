@@ -20,7 +20,7 @@ pub use clear::STACK_BYTES;
 pub(crate) type SessionBytes = [u8; 696];
 
 /// What a number says. No function gives one outside the table to a buffer of the session's size;
-/// it would be read as 13, which no call here gives.
+/// it would be read as 13, which only the journal's reader gives.
 fn done(number: u8) -> Result<(), Refusal> {
     match number {
         0 => Ok(()),
@@ -334,4 +334,45 @@ pub(crate) fn derive_secret(
             written,
         )
     })
+}
+
+pub(crate) fn journal_write(
+    kind: u16,
+    number: u16,
+    small: u8,
+    body: &[u8],
+    out: &mut [u8],
+) -> Result<usize, Refusal> {
+    // SAFETY: `body` and `out` are lent whole.
+    writing(out, |out, out_size, written| unsafe {
+        c::bindcricket_journal_write(
+            kind,
+            number,
+            small,
+            body.as_ptr(),
+            body.len(),
+            out,
+            out_size,
+            written,
+        )
+    })
+}
+
+/// Gives the kind of the record at a place, its payload and the place of the next; kind 0 where the
+/// journal has ended.
+pub(crate) fn journal_read(journal: &[u8], place: usize) -> Result<(u16, &[u8], usize), Refusal> {
+    let (mut kind, mut start, mut size, mut next) = (0, 0, 0, 0);
+    // SAFETY: `journal` is lent whole, and each of the others is one number.
+    done(cleared(|| unsafe {
+        c::bindcricket_journal_read(
+            journal.as_ptr(),
+            journal.len(),
+            place,
+            &mut kind,
+            &mut start,
+            &mut size,
+            &mut next,
+        )
+    }))?;
+    Ok((kind, &journal[start..][..size], next))
 }
