@@ -1,16 +1,17 @@
 -- Laws of the first block under a prepared key: what the code makes of any, and what of a key's own is Extract and Expand-Label.
-use Prim.Native.Nat.{ℕ, _+_, _/_, _%_, _≤_, min}
+use Prim.Native.Nat.{ℕ, _+_, _-_, _/_, _%_, _≤_, min}
 use mathlib.Core.Path.{_≡_, refl, sym, ap, _∙_}
 use mathlib.Core.List.{List, [], _∷_, _++_, append-nil}
 use native.Mathlib.Nat.{div-eq-of-lt-le}
 use native.Mathlib.Omega.{arith}
 use lib.ListN.{length, take, length-append, length-take}
-use Rattle.buffer.specs.Buffer.{zeros, placed, after}
-use Rattle.buffer.proofs.Laws.{length-zeros, after-front, take-least}
-use Rattle.suite.specs.Suite.{hashLen}
+use lib.Seq.{length-take-le, take-all}
+use Rattle.buffer.specs.Buffer.{zeros, placed}
+use Rattle.buffer.proofs.Laws.{take-least, placed-is}
+use Rattle.suite.specs.Suite.{hashLen, blockLen}
 use Rattle.sha2.specs.declared.running.Running.{Running}
 use Rattle.sha2.specs.Variants.{variantOf}
-use Rattle.sha2.specs.Running.{absorbed}
+use Rattle.sha2.specs.Running.{run, absorbed}
 use Rattle.sha2.specs.Hash.{hash}
 use Rattle.sha2.proofs.Absorbing.{absorbed-append}
 use Rattle.hmac.specs.declared.Keyed.{Keyed}
@@ -33,14 +34,15 @@ module _ (suite : ℕ) where
   ready-is s eh ek = ek ∙ ap (λ (n : ℕ). keyedOf suite (take n s)) eh
 
   -- the HkdfLabel and the first block's number, in parts
-  pub label-absorbed : (h : Running) (label context : List ℕ) (asked : ℕ) {p q s t u : Running}
-      → p ≡ absorbed (variantOf suite) h (asked / 256 % 256 ∷ asked % 256 ∷ (6 + length label % 256) % 256 ∷ tls13)
+  pub label-absorbed : (state block label context : List ℕ) (asked : ℕ) {n : ℕ} {p q s t u : Running} → n ≡ blockLen suite
+      → p ≡ absorbed (variantOf suite) (run state block n) (asked / 256 % 256 ∷ asked % 256 ∷ (6 + length label % 256) % 256 ∷ tls13)
       → q ≡ absorbed (variantOf suite) p label → s ≡ absorbed (variantOf suite) q (length context % 256 ∷ [])
       → t ≡ absorbed (variantOf suite) s context → u ≡ absorbed (variantOf suite) t (1 ∷ [])
-      → u ≡ absorbed (variantOf suite) h (hkdfLabel tls13 asked label context ++ (1 ∷ []))
+      → u ≡ absorbed (variantOf suite) (run state block (blockLen suite)) (hkdfLabel tls13 asked label context ++ (1 ∷ []))
   unfolding hkdfLabel
-  label-absorbed h label context asked ep eq es et eu =
+  label-absorbed state block label context asked en ep eq es et eu =
       let v = variantOf suite in
+      let h = run state block (blockLen suite) in
       let m : (6 + length label % 256) % 256 ≡ (6 + length label) % 256 = omega arith in
       let head : List ℕ = asked / 256 % 256 ∷ asked % 256 ∷ (6 + length label) % 256 ∷ tls13 in
       let size : List ℕ = length context % 256 ∷ [] in
@@ -50,21 +52,26 @@ module _ (suite : ℕ) where
       ∙ ap (λ (z : Running). absorbed v z context)
       (es
       ∙ ap (λ (z : Running). absorbed v z size)
-      (eq ∙ ap (λ (z : Running). absorbed v z label) (ep ∙ rw m) ∙ sym (absorbed-append v h head label))
+      (eq ∙ ap (λ (z : Running). absorbed v z label) (ep ∙ rw (en, m)) ∙ sym (absorbed-append v h head label))
       ∙ sym (absorbed-append v h (head ++ label) size))
       ∙ sym (absorbed-append v h (head ++ label ++ size) context))
       ∙ sym (absorbed-append v h (head ++ label ++ size ++ context) (1 ∷ []))
 
-  -- a block, cut and laid in 48 zeros
-  pub block-cut : (k : Keyed) (label context : List ℕ) (asked : ℕ) {n : ℕ} {i : Running} {t none r : List ℕ} → length t ≡ 48
-      → i ≡ absorbed (variantOf suite) (k .inner) (hkdfLabel tls13 asked label context ++ (1 ∷ [])) → t ≡ closed suite (k .outer) i
-      → n ≡ min asked 48 → none ≡ zeros 48 → r ≡ after 0 (take n t) none → r ≡ labelBlock suite k label context asked
-  unfolding labelBlock macOf placed
-  block-cut k label context asked {n} {i} {t} lt ei et en ez er =
-      let l : length (zeros 48) ≡ 48 = length-zeros 48 in
-      let c : take n t ≡ take asked t = ap (λ (j : ℕ). take j t) (en ∙ ap (min asked) (sym lt)) ∙ take-least asked t in
-      let w : length (take asked t) ≤ 48 = simp length-take (omega arith) in
-      er ∙ rw (c, ez, after-front (take asked t) (zeros 48) (omega arith)) (rw (et, ei))
+  -- a block, cut
+  pub block-cut : (k : Keyed) (label context : List ℕ) (asked : ℕ) {i : Running} {t held r : List ℕ} → held ≡ zeros 128
+      → i ≡ absorbed (variantOf suite) (run (k .inner) held (blockLen suite)) (hkdfLabel tls13 asked label context ++ (1 ∷ []))
+      → t ≡ closed suite (k .outer) i → r ≡ placed (take asked t) → r ≡ labelBlock suite k label context asked
+  unfolding labelBlock macOf
+  block-cut k label context asked eh ei et er = er ∙ rw (et, ei, eh)
+
+-- zeros from index m on
+pub cut-is : (t u : List ℕ) (n : ℕ) {m i : ℕ} → length t ≡ 48 → length u ≡ 48 → m ≡ min n (length t) → i ≡ 48
+    → take i u ≡ take m t ++ zeros (i - m) → u ≡ placed (take n t)
+cut-is t u n {m} {i} lt lu em ei e =
+    let c : take m t ≡ take n t = ap (λ (j : ℕ). take j t) em ∙ take-least n t in
+    let k : length (take m t) ≡ m = length-take-le m t (omega arith) in
+    let z : i - m ≡ 48 - length (take m t) = omega arith in
+    sym (take-all i u (omega arith)) ∙ e ∙ ap (λ (j : ℕ). take m t ++ zeros j) z ∙ sym (placed-is (take m t)) ∙ ap placed c
 
 -- ---- a key's own
 

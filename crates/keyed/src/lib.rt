@@ -5,16 +5,15 @@ use hmac::Keyed;
 use hmac::close;
 use hmac::mac;
 use hmac::prepare;
-use sha2::running::Running;
-use sha2::running::absorb;
+use sha2::running::absorb_in_place;
 use suite::Suite;
 ghost use mathlib.Core.Path.{_≡_};
 ghost use mathlib.Core.List.{[], _∷_, _++_};
-ghost use lib.ListN.{take};
+ghost use lib.ListN.{length, take};
 ghost use Rattle.buffer.specs.Buffer.{placed};
-ghost use Rattle.suite.specs.Suite.{hashLen};
+ghost use Rattle.suite.specs.Suite.{hashLen, blockLen};
 ghost use Rattle.sha2.specs.Variants.{variantOf};
-ghost use Rattle.sha2.specs.Running.{absorbed};
+ghost use Rattle.sha2.specs.Running.{run, absorbed};
 ghost use Rattle.hmac.specs.Keyed.{keyedOf};
 ghost use Rattle.hkdf.specs.Rfc5869.{extract};
 ghost use Rattle.hkdf.specs.Rfc8446.{tls13, hkdfLabel};
@@ -39,9 +38,17 @@ pub fn extract_value(suite: u16, salt: &[u8], input: &[u8]) -> [u8; 48]
     mac(suite, k, &input[..n], &input[..0], &input[..0])
 }
 
-// Absorbs the HkdfLabel of an asked length, a label and a context, and the first block's number.
-fn absorb_label(suite: u16, h: Running, label: &[u8], context: &[u8], asked: usize) -> Running
-    ensures { λ r. ⌜ r ≡ absorbed (variantOf suite) h (hkdfLabel tls13 asked (now (label .entry)) (now (context .entry)) ++ (1 ∷ [])) ⌝ }
+// Absorbs the HkdfLabel of an asked length, a label and a context, and the first block's number, after a pad. Answers the
+// count after it.
+fn absorb_label(
+    suite: u16,
+    state: &mut [u64; 8],
+    block: &mut [u8; 128],
+    label: &[u8],
+    context: &[u8],
+    asked: usize,
+) -> u64
+    ensures { λ r. ⌜ run (now (state .exit)) (now (block .exit)) r ≡ absorbed (variantOf suite) (run (now (state .entry)) (now (block .entry)) (blockLen suite)) (hkdfLabel tls13 asked (now (label .entry)) (now (context .entry)) ++ (1 ∷ [])) ⌝ }
 {
     let head = [
         (asked / 256 % 256) as u8,
@@ -56,24 +63,35 @@ fn absorb_label(suite: u16, h: Running, label: &[u8], context: &[u8], asked: usi
     ];
     let size = [(context.len() % 256) as u8];
     let number = [1u8];
-    let named = absorb(suite, absorb(suite, h, &head), label);
-    let whole = absorb(suite, absorb(suite, named, &size), context);
-    absorb(suite, whole, &number)
+    let n = Suite::block_len(suite) as u64;
+    let p = absorb_in_place(suite, state, block, n, &head);
+    let q = absorb_in_place(suite, state, block, p, label);
+    let s = absorb_in_place(suite, state, block, q, &size);
+    let t = absorb_in_place(suite, state, block, s, context);
+    absorb_in_place(suite, state, block, t, &number)
+}
+
+// Keeps the first n bytes of t, with zeros behind them.
+fn cut(t: &mut [u8], n: usize)
+    requires { ⌜ length (now t) ≡ 48 ⌝ }
+    ensures { λ _. ⌜ now (t .exit) ≡ placed (take n (now (t .entry))) ⌝ }
+{
+    let mut i = buffer::least(n, t.len());
+    while i < t.len() {
+        t[i] = 0;
+        i += 1;
+    }
 }
 
 // The first block of Expand-Label, cut to what is asked, with zeros behind it.
 pub fn label_block(suite: u16, k: Keyed, label: &[u8], context: &[u8], asked: usize) -> [u8; 48]
     ensures { λ r. ⌜ r ≡ labelBlock suite k (now (label .entry)) (now (context .entry)) asked ⌝ }
 {
-    let inner = k.inner;
     let outer = k.outer;
-    let t = close(
-        suite,
-        outer,
-        absorb_label(suite, inner, label, context, asked),
-    );
-    let n = buffer::least(asked, 48);
-    let mut r = buffer::zeros48();
-    buffer::put(&mut r, 0, &t[..n]);
-    r
+    let mut state = k.inner;
+    let mut block = buffer::zeros128();
+    let count = absorb_label(suite, &mut state, &mut block, label, context, asked);
+    let mut t = close(suite, outer, &mut state, &mut block, count);
+    cut(&mut t, asked);
+    t
 }

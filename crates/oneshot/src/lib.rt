@@ -1,9 +1,9 @@
 // The hash of a whole input.
 use refusal::Answer;
 use refusal::refuse_if;
-use sha2::running::absorb;
-use sha2::running::finish;
-use sha2::running::start;
+use sha2::blocks::initial;
+use sha2::running::absorb_in_place;
+use sha2::running::finish_in_place;
 use suite::Suite;
 ghost use mathlib.Core.Path.{_≡_};
 ghost use Prim.Native.Nat.{_≤_};
@@ -41,7 +41,10 @@ pub fn digest(suite: u16, input: &[u8]) -> [u8; 48]
     ensures { λ r. ⌜ r ≡ placed (hash suite (take maxInput (now (input .entry)))) ⌝ }
 {
     let n = buffer::least(MAX_INPUT, input.len());
-    finish(suite, absorb(suite, start(suite), &input[..n]))
+    let mut state = initial(suite);
+    let mut block = buffer::zeros128();
+    let count = absorb_in_place(suite, &mut state, &mut block, 0, &input[..n]);
+    finish_in_place(suite, &mut state, &mut block, count)
 }
 
 // Writes the digest of input to the front of out: H bytes. Refusals 2, 9 and 11.

@@ -1,36 +1,45 @@
 -- The end of a message as the code lays it out: once for every variant.
 use Prim.Native.Nat.{ℕ, suc, _+_, _-_, _*_, _/_, _%_, _^_, _≤_, _<_}
 use mathlib.Core.Path.{_≡_, sym, ap, _∙_}
-use mathlib.Core.List.{List, _∷_, _++_, append-assoc}
+use mathlib.Core.List.{List, [], _∷_, _++_, append-assoc, append-nil}
 use native.Mathlib.Nat.{mod-lt}
+use native.Mathlib.Numerals.{add-one}
 use native.Mathlib.Omega.{arith}
 use lib.ListN.{length, take, drop, set, length-append}
-use lib.Seq.{length-take-le, take-append-add, take-at, set-at}
-use Rattle.buffer.specs.Buffer.{zeros, overwrite, fronted, after}
-use Rattle.buffer.proofs.Laws.{after-fits, after-front, length-overwrite, length-zeros, take-zeros, drop-zeros, zeros-more, zeros-append}
+use lib.Seq.{length-take-le, take-all, take-append-add, take-at, take-suc-set, set-at}
+use Rattle.buffer.specs.Buffer.{zeros, overwrite, after}
+use Rattle.buffer.proofs.Laws.{after-fits, length-zeros, take-zeros, zeros-none, zeros-more, zeros-append}
 use Rattle.fips180.specs.Words.{bytesOf}
 use Rattle.fips180.specs.Variant.{Variant}
 use Rattle.fips180.specs.Padding.{zerosFor, padding, wordsOf}
 use Rattle.fips180.specs.Hash.{compress}
-use Rattle.fips180.specs.Rows.{cut, folded, digestIn48}
-use Rattle.fips180.proofs.Folding.{fold-one}
+use Rattle.fips180.specs.Rows.{cut}
 use Rattle.fips180.proofs.Words.{bytes-wide}
 use Rattle.fips180.proofs.Lengths.{length-bytesOf}
 use Rattle.sha2.specs.declared.running.Running.{Running}
-use Rattle.sha2.specs.Running.{absorbed, finished}
+use Rattle.sha2.specs.Running.{absorbed}
 use Rattle.sha2.proofs.Sound.{Sound, positive}
 use Rattle.sha2.proofs.Absorbing.{absorbed-append, full-absorbed, block-absorbed, full-after}
 
+-- no zero behind the first at bytes, and one more
+pub end-start : (held : List ℕ) (at : ℕ) → take at held ≡ take at held ++ zeros (at - at)
+end-start held at = let z : at - at ≡ 0 = omega arith in rw (z, zeros-none) (sym (append-nil (take at held)))
+
+pub end-turn : (held block : List ℕ) {at i : ℕ} → at ≤ i → i < length block → take i block ≡ take at held ++ zeros (i - at)
+    → take (i + 1) (set block i 0) ≡ take at held ++ zeros (i + 1 - at)
+end-turn held block {at} {i} h l e =
+    let n : i + 1 - at ≡ (i - at) + 1 = omega arith in
+    let t : take (i + 1) (set block i 0) ≡ take i block ++ (0 ∷ []) = rw add-one (take-suc-set block i 0 l) in
+    let z : zeros (i + 1 - at) ≡ zeros (i - at) ++ (0 ∷ []) = rw (n, ← zeros-append (i - at) 1, zeros-more 0, zeros-none) in
+    t ∙ ap (λ (x : List ℕ). x ++ (0 ∷ [])) e ∙ append-assoc (take at held) (zeros (i - at)) (0 ∷ []) ∙ ap (λ (x : List ℕ). take at held ++ x) (sym z)
+
 -- the bytes held, the byte 80 and zeros
-pub ended-is : (held : List ℕ) {at : ℕ} {none block : List ℕ} → length held ≡ 128 → at < 128 → none ≡ zeros 128
-    → block ≡ after 0 (take at held) none → set block at 0x80 ≡ take at held ++ 0x80 ∷ zeros (127 - at)
-unfolding fronted
-ended-is held {at} {none} {block} long less en eb =
+pub end-is : (held block : List ℕ) {at i : ℕ} → length held ≡ 128 → length block ≡ 128 → at < 128 → i ≡ 128
+    → take i block ≡ take at held ++ zeros (i - at) → set block at 0x80 ≡ take at held ++ 0x80 ∷ zeros (127 - at)
+end-is held block {at} {i} long wide less all eb =
     let l : length (take at held) ≡ at = length-take-le at held (omega arith) in
-    let z : length (zeros 128) ≡ 128 = length-zeros 128 in
-    let n : 128 - at ≡ suc (127 - at) = omega arith in
-    let e : block ≡ take at held ++ 0 ∷ zeros (127 - at) =
-    eb ∙ rw (en, after-front (take at held) (zeros 128) (omega arith), l, drop-zeros 128 at, n, zeros-more (127 - at)) in
+    let n : i - at ≡ suc (127 - at) = omega arith in
+    let e : block ≡ take at held ++ 0 ∷ zeros (127 - at) = sym (take-all i block (omega arith)) ∙ eb ∙ rw (n, zeros-more (127 - at)) in
     rw e (set-at (take at held) 0 (zeros (127 - at)) 0x80 at l)
 
 -- the first b bytes of a block with xs written over it up to there
@@ -50,16 +59,14 @@ front-ended held at m k long e h =
 
 module _ (v : Variant) (ok : Sound v) where
   -- the last block, with the length in bits at its end
-  pub last-is : (s ended bits : List ℕ) {b : ℕ} {block y r : List ℕ} → length ended ≡ 128 → length bits ≡ 8 → b ≡ v .block
-      → block ≡ after (b - 8) bits ended → y ≡ folded v s (take b block) (length (take b block) / v .block) → r ≡ digestIn48 v y
-      → r ≡ digestIn48 v (compress v (cut v s) (wordsOf v 16 (take (v .block) (overwrite (v .block - 8) bits ended))))
-  last-is s ended bits {b} {block} {y} {r} long eight es eb ey er =
+  pub last-is : (s ended bits : List ℕ) {b : ℕ} {block y : List ℕ} → length ended ≡ 128 → length bits ≡ 8 → b ≡ v .block
+      → block ≡ after (b - 8) bits ended → y ≡ compress v (cut v s) (wordsOf v 16 (take (v .block) block))
+      → y ≡ compress v (cut v s) (wordsOf v 16 (take (v .block) (overwrite (v .block - 8) bits ended)))
+  last-is s ended bits {b} {block} {y} long eight es eb ey =
       let some = ok .some in
       let w = ok .within in
       let a : block ≡ overwrite (v .block - 8) bits ended = (rw es at eb) ∙ after-fits (v .block - 8) bits ended (omega arith) in
-      let lo = length-overwrite (v .block - 8) bits ended (omega arith) in
-      let l = length-take-le (v .block) (overwrite (v .block - 8) bits ended) (omega arith) in
-      er ∙ ap (digestIn48 v) (ey ∙ rw (es, a) (fold-one v s (take (v .block) (overwrite (v .block - 8) bits ended)) (positive v ok) l))
+      ey ∙ rw a
 
   module _ (h : Running) (long : length (h .block) ≡ 128) (small : h .count < 2 ^ 64) {at b : ℕ} {bits block : List ℕ}
       (ea : at ≡ h .count % v .block) (es : b ≡ v .block) (eb : bits ≡ bytesOf 8 (h .count % 2 ^ 61 * 8))
@@ -94,11 +101,11 @@ module _ (v : Variant) (ok : Sound v) where
         ∙ rw (zeros-append z (v .field - 8), ← e, ← eb)
 
     -- where it completes the block at hand
-    pub finish-short : {r : List ℕ} → at + 1 + b / 8 ≤ b
-        → r ≡ digestIn48 v (compress v (cut v (h .state)) (wordsOf v 16 (take (v .block) (overwrite (v .block - 8) bits block))))
-        → r ≡ finished v h
-    unfolding finished n
-    finish-short {r} fits er =
+    pub pad-short : {r : List ℕ} → at + 1 + b / 8 ≤ b
+        → r ≡ compress v (cut v (h .state)) (wordsOf v 16 (take (v .block) (overwrite (v .block - 8) bits block)))
+        → r ≡ absorbed v h (padding v (h .count % 2 ^ 61)) .state
+    unfolding n
+    pad-short {r} fits er =
         let some = ok .some in
         let within = ok .within in
         let w = ok .wide in
@@ -120,15 +127,15 @@ module _ (v : Variant) (ok : Sound v) where
         let same : take (v .block) (overwrite (v .block - 8) bits block) ≡ take (v .block) (overwrite at (padding v n) hb) =
         right ∙ rw fe (append-assoc (take at hb) (0x80 ∷ zeros k) bits) ∙ ap (λ (l : List ℕ). take at hb ++ l) (sym p) ∙ sym left in
         er
-        ∙ ap (λ (x : List ℕ). digestIn48 v (compress v (cut v (h .state)) (wordsOf v 16 x))) (same ∙ ap (λ (i : ℕ). take (v .block) (overwrite i (padding v n) hb)) ea)
-        ∙ sym (ap (λ (x : Running). digestIn48 v (x .state)) a)
+        ∙ ap (λ (x : List ℕ). compress v (cut v (h .state)) (wordsOf v 16 x)) (same ∙ ap (λ (i : ℕ). take (v .block) (overwrite i (padding v n) hb)) ea)
+        ∙ sym (ap (λ (x : Running). x .state) a)
 
     -- where it takes one block more
-    pub finish-long : {next none r : List ℕ} → b < at + 1 + b / 8 → next ≡ folded v (h .state) (take b block) (length (take b block) / v .block) → none ≡ zeros 128
-        → r ≡ digestIn48 v (compress v (cut v next) (wordsOf v 16 (take (v .block) (overwrite (v .block - 8) bits none))))
-        → r ≡ finished v h
-    unfolding finished n
-    finish-long {next} {none} {r} over en ez er =
+    pub pad-long : {next none r : List ℕ} → b < at + 1 + b / 8 → next ≡ compress v (cut v (h .state)) (wordsOf v 16 (take (v .block) block)) → none ≡ zeros 128
+        → r ≡ compress v (cut v next) (wordsOf v 16 (take (v .block) (overwrite (v .block - 8) bits none)))
+        → r ≡ absorbed v h (padding v (h .count % 2 ^ 61)) .state
+    unfolding n
+    pad-long {next} {none} {r} over en ez er =
         let some = ok .some in
         let within = ok .within in
         let w = ok .wide in
@@ -155,10 +162,8 @@ module _ (v : Variant) (ok : Sound v) where
         let a2 = block-absorbed v ok s1 (zeros 128) second c1 (omega arith) (length-zeros 128) (full-after v ok (h .count) (length first) (omega arith)) l2 in
         let left = front-over at (v .block) first hb (omega arith) (omega arith) in
         let fe : take (v .block) block ≡ take at hb ++ first = rw ed (front-ended hb at (v .block) i long (omega arith) within) in
-        let lb : length block ≡ 128 = ap length ed ∙ length-ended at (omega arith) in
-        let lw = length-take-le (v .block) block (omega arith) in
         let next-is : next ≡ s1 =
-        (rw es at en) ∙ fold-one v (h .state) (take (v .block) block) (positive v ok) lw
+        en
         ∙ ap (λ (x : List ℕ). compress v (cut v (h .state)) (wordsOf v 16 x))
         (fe ∙ sym left ∙ ap (λ (q : ℕ). take (v .block) (overwrite q first hb)) ea) in
         let z : length (zeros 128) ≡ 128 = length-zeros 128 in
@@ -167,5 +172,5 @@ module _ (v : Variant) (ok : Sound v) where
         er
         ∙ rw (next-is, right)
         (sym
-        (ap (λ (x : List ℕ). digestIn48 v (absorbed v h x .state)) p
-        ∙ ap (λ (x : Running). digestIn48 v (x .state)) (absorbed-append v h first second ∙ ap (λ (x : Running). absorbed v x second) a1 ∙ a2)))
+        (ap (λ (x : List ℕ). absorbed v h x .state) p
+        ∙ ap (λ (x : Running). x .state) (absorbed-append v h first second ∙ ap (λ (x : Running). absorbed v x second) a1 ∙ a2)))

@@ -7,7 +7,7 @@ use native.Mathlib.Omega.{arith}
 use lib.ListN.{length, take, drop, length-drop, take-append-drop}
 use lib.Seq.{length-take-le, take-all}
 use Rattle.buffer.specs.Buffer.{zeros, overwrite, after}
-use Rattle.buffer.proofs.Laws.{after-fits, length-overwrite, length-zeros}
+use Rattle.buffer.proofs.Laws.{after-fits, length-zeros}
 use Rattle.fips180.specs.Variant.{Variant}
 use Rattle.fips180.specs.Padding.{wordsOf}
 use Rattle.fips180.specs.Hash.{compress}
@@ -28,6 +28,13 @@ from k x = take (length x - k) (drop k x)
 
 from-is : (k : ℕ) (x : List ℕ) → from k x ≡ drop k x
 from-is k x = take-all (length x - k) (drop k x) (simp length-drop (omega arith))
+
+-- one block, at the front of p
+pub compress-is : (v : Variant) → Sound v → (s p : List ℕ) {b : ℕ} {y : List ℕ} → 128 ≤ length p → b ≡ v .block
+    → y ≡ folded v s (take b p) (length (take b p) / v .block) → y ≡ compress v (cut v s) (wordsOf v 16 (take (v .block) p))
+compress-is v ok s p long es ey =
+    let w = ok .within in
+    ey ∙ rw es (fold-one v s (take (v .block) p) (positive v ok) (length-take-le (v .block) p (omega arith)))
 
 module _ (v : Variant) (ok : Sound v) (h : Running) (long : length (h .block) ≡ 128) (small : h .count < 2 ^ 64) (x : List ℕ)
     {at b k count : ℕ} {block : List ℕ} (ea : at ≡ h .count % v .block) (es : b ≡ v .block) (ek : k ≡ min (b - at) (length x))
@@ -52,7 +59,7 @@ module _ (v : Variant) (ok : Sound v) (h : Running) (long : length (h .block) �
       rw (ec, d, t) (sym f)
 
   -- the block at hand is completed; whole blocks, and what is left
-  pub absorb-long : {first state none tail : List ℕ} {w : ℕ} → b ≤ at + k → first ≡ folded v (h .state) (take b block) (length (take b block) / v .block)
+  pub absorb-long : {first state none tail : List ℕ} {w : ℕ} → b ≤ at + k → first ≡ compress v (cut v (h .state)) (wordsOf v 16 (take (v .block) block))
       → state ≡ folded v first (from k x) (length (from k x) / v .block) → w ≡ length (from k x) / v .block * v .block
       → none ≡ zeros 128 → tail ≡ after 0 (from w (from k x)) none → run state tail count ≡ absorbed v h x
   unfolding overwrite
@@ -77,11 +84,8 @@ module _ (v : Variant) (ok : Sound v) (h : Running) (long : length (h .block) �
       let a2 = blocks-absorbed v ok s1 rest c1 (omega arith) e1 n (omega arith) in
       let e2 : c2 % v .block ≡ 0 = even-after v ok c1 n e1 in
       let a3 = part-absorbed v ok (folded v s1 rest n) (zeros 128) t c2 (omega arith) (length-zeros 128) (omega arith) in
-      let lo = length-overwrite (h .count % v .block) p (h .block) (omega arith) in
-      let l : length (take (v .block) (overwrite (h .count % v .block) p (h .block))) ≡ v .block =
-      length-take-le (v .block) (overwrite (h .count % v .block) p (h .block)) (omega arith) in
       let o = is-after in
-      let first-is : first ≡ s1 = ef ∙ rw (es, o) (fold-one v (h .state) (take (v .block) (overwrite (h .count % v .block) p (h .block))) (positive v ok) l) in
+      let first-is : first ≡ s1 = ef ∙ rw o in
       let w-is : w ≡ n * v .block = rw fr at ew in
       let state-is : state ≡ folded v s1 rest n = rw (fr, first-is) at et in
       let tail-is : tail ≡ overwrite 0 t (zeros 128) =

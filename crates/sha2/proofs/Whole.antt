@@ -8,7 +8,7 @@ use lib.ListN.{length, take, length-take}
 use lib.Seq.{take-all}
 use lib.Dec.{eqb, ltb}
 use borrow.Author.Tests.{ltb-false}
-use Rattle.buffer.specs.Buffer.{placed, after}
+use Rattle.buffer.specs.Buffer.{zeros, placed, after}
 use Rattle.buffer.proofs.Laws.{after-front, take-placed, take-least}
 use Rattle.refusal.specs.declared.Answer.{Answer}
 use Rattle.refusal.specs.Refusal.{number, count}
@@ -18,7 +18,7 @@ use Rattle.suite.specs.Suite.{known, hashLen}
 use Rattle.fips180.proofs.Lengths.{length-sha2}
 use Rattle.sha2.specs.declared.running.Running.{Running}
 use Rattle.sha2.specs.Variants.{variantOf}
-use Rattle.sha2.specs.Running.{start, absorbed, finished}
+use Rattle.sha2.specs.Running.{run, start, absorbed, finished}
 use Rattle.sha2.specs.Hash.{hash, hashNumber, maxInput}
 use Rattle.sha2.proofs.Sound.{sound, hash-len}
 use Rattle.sha2.proofs.Message.{running-after, running-finished}
@@ -36,14 +36,16 @@ digest-is suite m small es ea ed =
     let e = running-after v (sound suite) m (omega arith) in
     ed ∙ ap (finished v) (ea ∙ ap (λ (r : Running). absorbed v r m) es ∙ e) ∙ running-finished v (sound suite) m small
 
--- the same, of an input that is cut at the limit
-pub cut-digest-is : (suite : ℕ) (m : List ℕ) {n : ℕ} {s a : Running} {d : List ℕ} → n ≡ min maxInput (length m)
-    → s ≡ start (variantOf suite) → a ≡ absorbed (variantOf suite) s (take n m) → d ≡ finished (variantOf suite) a
+-- the same, of an input that is cut at the limit, in the parts of the running hash
+pub cut-digest-is : (suite : ℕ) (m : List ℕ) {n : ℕ} {s none : List ℕ} {a : Running} {d : List ℕ} → n ≡ min maxInput (length m)
+    → s ≡ variantOf suite .H0 → none ≡ zeros 128 → a ≡ absorbed (variantOf suite) (run s none 0) (take n m) → d ≡ finished (variantOf suite) a
     → d ≡ placed (hash suite (take maxInput m))
-cut-digest-is suite m {n} en es ea ed =
+unfolding start
+cut-digest-is suite m {n} {s} {none} en es ez ea ed =
     let t : take n m ≡ take maxInput m = ap (λ (k : ℕ). take k m) en ∙ take-least maxInput m in
     let l : length (take maxInput m) < 2 ^ 61 = simp length-take (omega arith) in
-    digest-is suite (take maxInput m) l es (rw t at ea) ed
+    let e : run s none 0 ≡ start (variantOf suite) = rw (es, ez) in
+    digest-is suite (take maxInput m) l e (rw t at ea) ed
 
 module _ (suite : ℕ) (input out : List ℕ) where
   abbrev n : ℕ

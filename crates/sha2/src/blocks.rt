@@ -2,10 +2,11 @@
 use suite::Hash;
 use suite::Suite;
 ghost use mathlib.Core.Path.{_≡_};
-ghost use Prim.Native.Nat.{_*_, _/_, _%_};
-ghost use lib.ListN.{length};
-ghost use Rattle.buffer.specs.Buffer.{zeros};
-ghost use Rattle.fips180.specs.Rows.{folded, digestIn48};
+ghost use Prim.Native.Nat.{_*_, _/_, _%_, _≤_};
+ghost use lib.ListN.{length, take};
+ghost use Rattle.fips180.specs.Padding.{wordsOf};
+ghost use Rattle.fips180.specs.Hash.{compress};
+ghost use Rattle.fips180.specs.Rows.{cut, folded, digestIn48};
 ghost use Rattle.sha2.specs.Variants.{variantOf};
 
 // The initial hash values (FIPS 180-4, section 5.3).
@@ -31,7 +32,7 @@ const H384: [u64; 8] = [
     0x47b5481dbefa4fa4,
 ];
 
-pub(crate) fn initial(suite: u16) -> [u64; 8]
+pub fn initial(suite: u16) -> [u64; 8]
     ensures { λ r. ⌜ r ≡ variantOf suite .H0 ⌝ }
 {
     let hash = Suite::hash(suite);
@@ -41,15 +42,31 @@ pub(crate) fn initial(suite: u16) -> [u64; 8]
     }
 }
 
-// The hash value after all whole blocks of p.
-pub(crate) fn fold(suite: u16, s: [u64; 8], p: &[u8]) -> [u64; 8]
-    ensures { λ r. ⌜ r ≡ folded (variantOf suite) s (now (p .entry)) (length (now (p .entry)) / variantOf suite .block) ⌝ }
+// Takes the hash value s on over all whole blocks of p.
+pub fn fold(suite: u16, s: &mut [u64; 8], p: &[u8])
+    ensures { λ _. ⌜ now (s .exit) ≡ folded (variantOf suite) (now (s .entry)) (now (p .entry)) (length (now (p .entry)) / variantOf suite .block) ⌝ }
 {
     let hash = Suite::hash(suite);
+    let x = *s;
     match hash {
-        Hash::Sha256 => sha256::fold(s, p),
-        Hash::Sha384 => sha384::fold(s, p),
+        Hash::Sha256 => {
+            let y = sha256::fold(x, p);
+            *s = y;
+        }
+        Hash::Sha384 => {
+            let y = sha384::fold(x, p);
+            *s = y;
+        }
     }
+}
+
+// Takes the hash value s on over the block at the front of p.
+pub(crate) fn compress(suite: u16, s: &mut [u64; 8], p: &[u8])
+    requires { ⌜ 128 ≤ length (now p) ⌝ }
+    ensures { λ _. ⌜ now (s .exit) ≡ compress (variantOf suite) (cut (variantOf suite) (now (s .entry))) (wordsOf (variantOf suite) 16 (take (variantOf suite .block) (now (p .entry)))) ⌝ }
+{
+    let b = Suite::block_len(suite);
+    fold(suite, s, &p[..b]);
 }
 
 // The digest of a hash value, in 48 bytes with zeros behind it.

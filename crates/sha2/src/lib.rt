@@ -1,4 +1,4 @@
 // SHA-256 and SHA-384 (FIPS 180-4), by the number of a suite.
-mod blocks;
+pub mod blocks;
 mod padding;
 pub mod running;

@@ -6,12 +6,13 @@ use borrow.Author.Needs.{needs}
 use Rattle.oneshot.proofs.digest.Statement.{statement}
 use Rattle.oneshot.proofs.digest.Tie as tie
 
-slice-aggregate-absorb : tie.Need-slice-aggregate-absorb
-slice-aggregate-absorb c = simp length-take (omega arith)
+slice-aggregate-absorb-in-place : tie.Need-slice-aggregate-absorb-in-place
+slice-aggregate-absorb-in-place c = simp length-take (omega arith)
 
 returns : tie.Need-returns
 returns c =
-    cut-digest-is _ (now (c .before .before .before .before .before .before .args .input)) (c .before .before .before .before .least .ensures) (c .before .before .before .start .ensures) (c .before .absorb .ensures) (c .finish .ensures)
+    cut-digest-is _ (now (c .before .before .before .before .before .before .before .before .before .before .before .args .input)) (c .before .before .before .before .before .before .before .before .before .least .ensures) (c .before .before .before .before .before .before .before .before .initial .ensures) (c .before .before .before .before .before .before .before .zeros128 .ensures)
+    (c .before .before .before .absorb-in-place .ensures) (c .finish-in-place .ensures)
 
 pub digest-spec : {M : Type 1} → statement M
 digest-spec =
@@ -19,7 +20,8 @@ digest-spec =
     (tie.spec
     (λ c κs. search needs)
     (λ c κs. search needs)
-    slice-aggregate-absorb
+    (λ c κs. search needs)
+    slice-aggregate-absorb-in-place
     (λ c κs. search needs)
     (λ c κs. search needs)
     returns)

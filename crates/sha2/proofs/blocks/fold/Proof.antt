@@ -12,15 +12,15 @@ use Rattle.sha2.proofs.blocks.fold.Tie as tie
 
 returns : tie.Need-returns
 returns c =
-    let e = is-variant _ Sha256 (c .before .before .before .hash .ensures) (c .before .enum-told .given .1) in
-    let a = c .before .before .before .before .before .args in
-    c .fold .ensures ∙ ap (λ (v : Variant). folded v (a .s) (now (a .p)) (length (now (a .p)) / v .block)) (sym e)
+    let e = is-variant _ Sha256 (c .before .before .before .before .hash .ensures) (c .before .enum-told .given .1) in
+    let a = c .before .before .before .before .before .before .args in
+    c .fold .ensures ∙ ap (λ (v : Variant). folded v (now (a .s)) (now (a .p)) (length (now (a .p)) / v .block)) (sym e)
 
 returns-2 : tie.Need-returns-2
 returns-2 c =
-    let e = is-variant _ Sha384 (c .before .before .before .hash .ensures) (c .before .enum-told2 .given .1) in
-    let a = c .before .before .before .before .before .args in
-    c .fold2 .ensures ∙ ap (λ (v : Variant). folded v (a .s) (now (a .p)) (length (now (a .p)) / v .block)) (sym e)
+    let e = is-variant _ Sha384 (c .before .before .before .before .hash .ensures) (c .before .enum-told2 .given .1) in
+    let a = c .before .before .before .before .before .before .args in
+    c .fold2 .ensures ∙ ap (λ (v : Variant). folded v (now (a .s)) (now (a .p)) (length (now (a .p)) / v .block)) (sym e)
 
 pub fold-spec : {M : Type 1} → statement M
 fold-spec =

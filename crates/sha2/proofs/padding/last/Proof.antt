@@ -1,6 +1,6 @@
+use denote.Ref.{now}
 use Rattle.sha2.proofs.Tail.{last-is}
 use Rattle.sha2.proofs.Sound.{sound, block-len}
-use lib.ListN.{length-take}
 use native.Mathlib.Omega.{arith}
 use mathlib.Core.Path.{_∙_}
 use borrow.Author.Needs.{needs}
@@ -12,27 +12,19 @@ sub-put c =
     let o = sound (c .before .before .args .suite) .some in
     omega (arith, c .before .block-len .ensures .0 ∙ block-len (c .before .before .args .suite))
 
-slice-aggregate-fold : tie.Need-slice-aggregate-fold
-slice-aggregate-fold c = simp length-take (omega arith)
-
 returns : tie.Need-returns
 returns c =
     let a = c .before .before .before .before .before .before .before .before .args in
-    last-is _ (sound _) (a .s) (a .ended) (a .t4) (omega arith) (omega arith)
-    (c .before .before .before .before .before .before .before .block-len .ensures .0 ∙ block-len _)
-    (c .before .before .before .before .put .ensures .1) (c .before .fold .ensures) (c .digest .ensures)
+    last-is _ (sound _) (now (a .s)) (now (a .block)) (a .t4) (omega arith) (omega arith)
+    (c .before .before .before .before .before .before .before .block-len .ensures .0 ∙ block-len _) (c .before .before .before .before .put .ensures .1) (c .compress .ensures)
 
 pub last-spec : {M : Type 1} → statement M
 last-spec =
     tie.close
     (tie.spec
     (λ c κs. search needs)
-    (λ c. search needs)
     sub-put
     (λ c. search needs)
-    (λ c κs. search needs)
-    (λ c. search needs)
-    slice-aggregate-fold
     (λ c κs. search needs)
     (λ c κs. search needs)
     returns)
