@@ -4,18 +4,21 @@ use sha2::running::finish;
 use suite::Suite;
 use traffic::verify_data;
 ghost use mathlib.Core.Path.{_≡_};
+ghost use mathlib.Core.Bool.{cond};
+ghost use lib.Dec.{eqb};
 ghost use lib.ListN.{take};
 ghost use Rattle.buffer.specs.Buffer.{after, behind, placed};
 ghost use Rattle.suite.specs.Suite.{hashLen};
-ghost use Rattle.outputs.specs.Places.{basePlace, finishedFrom};
+ghost use Rattle.outputs.specs.Places.{finishedFrom};
 
-fn base_place(s: Session, side: u8) -> [u8; 48]
-    ensures { λ r. ⌜ r ≡ basePlace s side ⌝ }
+// Each place is passed alone, so that the whole session is not copied.
+fn base_place(side: u8, client: [u8; 48], server: [u8; 48]) -> [u8; 48]
+    ensures { λ r. ⌜ r ≡ cond (eqb side 1) client server ⌝ }
 {
     if side == 1 {
-        return s.client_handshake;
+        return client;
     }
-    s.server_handshake
+    server
 }
 
 // The Finished value of a side over the messages so far, with zeros behind it.
@@ -24,7 +27,9 @@ pub(crate) fn finished_value(s: Session, side: u8) -> [u8; 48]
 {
     let suite = s.suite;
     let running = s.transcript;
-    let base = base_place(s, side);
+    let client = s.client_handshake;
+    let server = s.server_handshake;
+    let base = base_place(side, client, server);
     let hash = finish(suite, running);
     verify_data(suite, base, hash)
 }

@@ -5,17 +5,19 @@ use refusal::Answer;
 use schedule::exporter::tls_exporter;
 use session::record::Session;
 ghost use mathlib.Core.Path.{_≡_};
+ghost use mathlib.Core.Bool.{cond};
+ghost use lib.Dec.{eqb};
 ghost use Rattle.book.specs.Call.{Call};
 ghost use Rattle.session.specs.Promise.{Done, wrote};
-ghost use Rattle.outputs.specs.Places.{exporterPlace};
 
-fn exporter_place(s: Session, name: u8) -> [u8; 48]
-    ensures { λ r. ⌜ r ≡ exporterPlace s name ⌝ }
+// Each place is passed alone, so that the whole session is not copied.
+fn exporter_place(name: u8, early: [u8; 48], regular: [u8; 48]) -> [u8; 48]
+    ensures { λ r. ⌜ r ≡ cond (eqb name 1) early regular ⌝ }
 {
     if name == 1 {
-        return s.early_exporter;
+        return early;
     }
-    s.exporter
+    regular
 }
 
 // Names: 1 early, 2 regular. Refusals 1, 2, 3, 10 and 11.
@@ -44,6 +46,8 @@ pub fn export(
     }
     let suite = s.suite;
     let n = length_in_force(asked);
-    let secret = exporter_place(s, name);
+    let early = s.early_exporter;
+    let regular = s.exporter;
+    let secret = exporter_place(name, early, regular);
     tls_exporter(suite, secret, label, context, n, out)
 }

@@ -5,31 +5,40 @@ use session::record::Session;
 use suite::Suite;
 use traffic::traffic_keys;
 ghost use mathlib.Core.Path.{_≡_};
+ghost use mathlib.Core.Bool.{cond};
 ghost use Prim.Native.Nat.{_+_, _≤_};
 ghost use lib.ListN.{length, take};
+ghost use lib.Dec.{eqb};
 ghost use Rattle.buffer.specs.Buffer.{fronted, after, behind};
 ghost use Rattle.suite.specs.Suite.{hashLen, keyLen, ivLen};
 ghost use Rattle.schedule.specs.Schedule.{trafficKeys};
 ghost use Rattle.book.specs.Call.{Call};
 ghost use Rattle.session.specs.Promise.{Done, wrote};
-ghost use Rattle.outputs.specs.Places.{namedPlace};
 
-fn named_place(s: Session, name: u8) -> [u8; 48]
-    ensures { λ r. ⌜ r ≡ namedPlace s name ⌝ }
+// Each place is passed alone, so that the whole session is not copied.
+fn named_place(
+    name: u8,
+    client_early: [u8; 48],
+    client_handshake: [u8; 48],
+    server_handshake: [u8; 48],
+    client_application: [u8; 48],
+    server_application: [u8; 48],
+) -> [u8; 48]
+    ensures { λ r. ⌜ r ≡ cond (eqb name 1) «client_early» (cond (eqb name 2) «client_handshake» (cond (eqb name 3) «server_handshake» (cond (eqb name 4) «client_application» «server_application»))) ⌝ }
 {
     if name == 1 {
-        return s.client_early;
+        return client_early;
     }
     if name == 2 {
-        return s.client_handshake;
+        return client_handshake;
     }
     if name == 3 {
-        return s.server_handshake;
+        return server_handshake;
     }
     if name == 4 {
-        return s.client_application;
+        return client_application;
     }
-    s.server_application
+    server_application
 }
 
 // Writes the first n bytes of a value to out from index at on, and answers the index behind them.
@@ -64,7 +73,19 @@ pub fn keys(s: Session, name: u8, out: &mut [u8]) -> Answer
         return Answer::decided(number, 0);
     }
     let suite = s.suite;
-    let secret = named_place(s, name);
+    let client_early = s.client_early;
+    let client_handshake = s.client_handshake;
+    let server_handshake = s.server_handshake;
+    let client_application = s.client_application;
+    let server_application = s.server_application;
+    let secret = named_place(
+        name,
+        client_early,
+        client_handshake,
+        server_handshake,
+        client_application,
+        server_application,
+    );
     let count = write_keys(suite, secret, out);
     Answer::decided(0, count)
 }

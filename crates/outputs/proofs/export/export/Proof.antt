@@ -12,11 +12,11 @@ returns c =
 
 returns-2 : tie.Need-returns-2
 returns-2 c =
-    let a = c .before .before .before .before .before .before .before .before .before .before .before .args in
+    let a = c .before .before .before .before .before .before .before .before .before .before .before .before .before .args in
     exported (a .s) (a .name) (now (a .label)) (now (a .context)) (a .asked) (now (a .out))
-    (c .before .before .before .before .before .before .before .export-number .ensures)
-    (c .before .before .before .before .before .before .if1 .left)
-    (c .before .before .before .before .before .length-in-force .ensures)
+    (c .before .before .before .before .before .before .before .before .before .export-number .ensures)
+    (c .before .before .before .before .before .before .before .before .if1 .left)
+    (c .before .before .before .before .before .before .before .length-in-force .ensures)
     (c .before .before .before .before .exporter-place .ensures) (c .before .before .tls-exporter .result)
     (c .before .before .tls-exporter .ensures)
 

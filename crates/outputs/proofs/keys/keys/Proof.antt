@@ -12,14 +12,14 @@ returns c =
 
 write-keys-requires : tie.Need-write-keys-requires
 write-keys-requires c κs =
-    let a = c .before .before .before .before .before .args in
-    keys-fit (a .s) (a .name) (now (a .out)) (c .before .before .before .keys-number .ensures) (c .before .before .if1 .left)
+    let a = c .before .before .before .before .before .before .before .before .before .before .args in
+    keys-fit (a .s) (a .name) (now (a .out)) (c .before .before .before .before .before .before .before .before .keys-number .ensures) (c .before .before .before .before .before .before .before .if1 .left)
 
 returns-2 : tie.Need-returns-2
 returns-2 c =
-    let a = c .before .before .before .before .before .before .before .before .before .args in
-    keys-done (a .s) (a .name) (now (a .out)) (c .before .before .before .before .before .before .before .keys-number .ensures)
-    (c .decided2 .result) (c .before .before .before .before .before .before .if1 .left)
+    let a = c .before .before .before .before .before .before .before .before .before .before .before .before .before .before .args in
+    keys-done (a .s) (a .name) (now (a .out)) (c .before .before .before .before .before .before .before .before .before .before .before .before .keys-number .ensures)
+    (c .decided2 .result) (c .before .before .before .before .before .before .before .before .before .before .before .if1 .left)
     (c .before .before .before .before .before .named-place .ensures) (c .before .before .before .write-keys .ensures)
     (c .decided2 .ensures)
 
