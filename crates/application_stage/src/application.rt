@@ -12,33 +12,28 @@ ghost use Rattle.book.specs.Call.{Call};
 ghost use Rattle.session.specs.Promise.{Done, plain};
 
 // At Handshake, after the server's Finished; goes to Application. Refusal 1.
-pub fn application(s: Session) -> Outcome
+pub fn application(mut s: Session) -> Outcome
     ensures { λ r. ⌜ Done s Call.Application (r .session) (plain (r .answer)) ⌝ }
 {
     let number = application_number(s.point, s.stage);
-    if number != 0 {
-        return Outcome {
-            session: s,
-            answer: Answer::decided(number, 0),
-        };
+    if number == 0 {
+        let suite = s.suite;
+        let running = s.transcript;
+        let before = s.chain;
+        let hash = finish(suite, running);
+        let chain = master_secret(suite, before);
+        let made = application_secrets(suite, chain, hash);
+        let client = made.client;
+        let server = made.server;
+        let exporter = made.exporter;
+        s.point = APPLICATION;
+        s.chain = chain;
+        s.client_application = client;
+        s.server_application = server;
+        s.exporter = exporter;
     }
-    let suite = s.suite;
-    let running = s.transcript;
-    let before = s.chain;
-    let hash = finish(suite, running);
-    let chain = master_secret(suite, before);
-    let made = application_secrets(suite, chain, hash);
-    let client = made.client;
-    let server = made.server;
-    let exporter = made.exporter;
-    let mut next = s;
-    next.point = APPLICATION;
-    next.chain = chain;
-    next.client_application = client;
-    next.server_application = server;
-    next.exporter = exporter;
     Outcome {
-        session: next,
-        answer: Answer::decided(0, 0),
+        session: s,
+        answer: Answer::decided(number, 0),
     }
 }

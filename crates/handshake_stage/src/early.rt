@@ -10,29 +10,24 @@ ghost use Rattle.book.specs.Call.{Call};
 ghost use Rattle.session.specs.Promise.{Done, plain};
 
 // At Early, between ClientHello and ServerHello, once. Refusals 1 and 3.
-pub fn early(s: Session) -> Outcome
+pub fn early(mut s: Session) -> Outcome
     ensures { λ r. ⌜ Done s Call.Early (r .session) (plain (r .answer)) ⌝ }
 {
     let number = early_number(s.point, s.stage, s.early, s.kind);
-    if number != 0 {
-        return Outcome {
-            session: s,
-            answer: Answer::decided(number, 0),
-        };
+    if number == 0 {
+        let suite = s.suite;
+        let running = s.transcript;
+        let chain = s.chain;
+        let hash = finish(suite, running);
+        let made = early_secrets(suite, chain, hash);
+        let client = made.client;
+        let exporter = made.exporter;
+        s.early = 1;
+        s.client_early = client;
+        s.early_exporter = exporter;
     }
-    let suite = s.suite;
-    let running = s.transcript;
-    let chain = s.chain;
-    let hash = finish(suite, running);
-    let made = early_secrets(suite, chain, hash);
-    let client = made.client;
-    let exporter = made.exporter;
-    let mut next = s;
-    next.early = 1;
-    next.client_early = client;
-    next.early_exporter = exporter;
     Outcome {
-        session: next,
-        answer: Answer::decided(0, 0),
+        session: s,
+        answer: Answer::decided(number, 0),
     }
 }

@@ -122,6 +122,25 @@ accepted-plain s c after a none wrote says is to e =
     (e .1)
     (ap (λ (l : List ℕ). drop 0 l) (sym none)) (subst (λ (j : ℕ). j ≤ length (lent c)) (sym (e .1)) zero-le)
 
+-- a call that writes nothing and has one end, by the code's number: after is the session there, on each of the two ways
+module _ (s : Session) (c : Call) {n : ℕ} (a : Answer) (none : lent c ≡ [])
+    (is : (b : Book) → Reached b → s ≡ sessionOf b → n ≡ number b c)
+    (e : (Refusal.number a ≡ min n 13) × (Refusal.count a ≡ cond (eqb n 0) 0 0)) {after : Session} where
+  pub end-refused : n ≤ 13 → (n ≡ 0 → ⊥) → after ≡ s → Done s c after (plain a)
+  end-refused small some same =
+      subst (λ (x : Session). Done s c x (plain a)) (sym same)
+      (subst
+      (λ (l : List ℕ). Done s c s
+      (record { number = Refusal.number a; count = Refusal.count a; verdict = false; output = l }))
+      none (refused-by s c n a is small some e))
+
+  pub end-accepted : {made : Session} → ((b : Book) → written b c ≡ []) → ((b : Book) → verdict b c ≡ false) → n ≡ 0
+      → after ≡ made → ((b : Book) → Reached b → s ≡ sessionOf b → number b c ≡ 0 → made ≡ sessionOf (note b c))
+      → Done s c after (plain a)
+  end-accepted wrote says z same to =
+      accepted-plain s c after a none wrote says (λ b r p. sym (is b r p) ∙ z) (λ b r p y. same ∙ to b r p y)
+      (subst (λ (k : ℕ). (Refusal.number a ≡ min k 13) × (Refusal.count a ≡ cond (eqb k 0) 0 0)) z e)
+
 -- a call that lends no output reports no bytes, on any session
 pub no-count : {s after : Session} {c : Call} {g : Reply} → lent c ≡ [] → Done s c after g → g .count ≡ 0
 no-count {g = g} e d = le-antisymm (subst (λ (l : List ℕ). g .count ≤ length l) e (d .fits)) zero-le

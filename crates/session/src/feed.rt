@@ -11,25 +11,20 @@ ghost use Rattle.book.specs.Call.{Call};
 ghost use Rattle.session.specs.Promise.{Done, plain};
 
 // Absorbs the message into the transcript. Refusals 1, 7, 8 and 9.
-pub fn feed(s: Session, message: &[u8]) -> Outcome
+pub fn feed(mut s: Session, message: &[u8]) -> Outcome
     ensures { λ r. ⌜ Done s (Call.Feed (now (message .entry))) (r .session) (plain (r .answer)) ⌝ }
 {
     let number = feed_number(s.point, s.stage, s.transcript.count, message);
-    if number != 0 {
-        return Outcome {
-            session: s,
-            answer: Answer::decided(number, 0),
-        };
+    if number == 0 {
+        let before = s.transcript;
+        let transcript = absorb(s.suite, before, message);
+        let first = byte_at(message, 0);
+        let stage = stage_after(s.stage, first);
+        s.stage = stage;
+        s.transcript = transcript;
     }
-    let before = s.transcript;
-    let transcript = absorb(s.suite, before, message);
-    let first = byte_at(message, 0);
-    let stage = stage_after(s.stage, first);
-    let mut next = s;
-    next.stage = stage;
-    next.transcript = transcript;
     Outcome {
-        session: next,
-        answer: Answer::decided(0, 0),
+        session: s,
+        answer: Answer::decided(number, 0),
     }
 }
