@@ -1,5 +1,6 @@
 // Check: whether received bytes are the Finished value of a side.
 use super::numbers::check_number;
+use super::values::base_place;
 use super::values::finished_value;
 use refusal::Answer;
 use refusal::verdict::Verdict;
@@ -50,7 +51,9 @@ pub fn check(s: Session, side: u8, received: &[u8]) -> Verdict
         return refused(number);
     }
     let h = Suite::hash_len(s.suite);
-    let value = finished_value(s, side);
+    let base = base_place(s, side);
+    let running = s.transcript;
+    let value = finished_value(s.suite, base, running);
     if is_same(received, &value[..h]) {
         return Verdict::Yes;
     }

@@ -1,5 +1,6 @@
 // Finished: the Finished value of a side.
 use super::numbers::finished_number;
+use super::values::base_place;
 use super::values::finished_value;
 use super::values::write_value;
 use refusal::Answer;
@@ -16,7 +17,9 @@ pub fn finished(s: Session, side: u8, out: &mut [u8]) -> Answer
         return Answer::decided(number, 0);
     }
     let suite = s.suite;
-    let value = finished_value(s, side);
+    let base = base_place(s, side);
+    let running = s.transcript;
+    let value = finished_value(s.suite, base, running);
     let count = write_value(suite, value, out);
     Answer::decided(0, count)
 }

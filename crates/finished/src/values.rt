@@ -1,35 +1,34 @@
 // What the calls share: a value worked out, and written.
 use session::record::Session;
+use sha2::running::Running;
 use sha2::running::finish;
 use suite::Suite;
 use traffic::verify_data;
 ghost use mathlib.Core.Path.{_≡_};
-ghost use mathlib.Core.Bool.{cond};
-ghost use lib.Dec.{eqb};
 ghost use lib.ListN.{take};
 ghost use Rattle.buffer.specs.Buffer.{after, behind, placed};
 ghost use Rattle.suite.specs.Suite.{hashLen};
-ghost use Rattle.outputs.specs.Places.{finishedFrom};
+ghost use Rattle.sha2.specs.Variants.{variantOf};
+ghost use Rattle.sha2.specs.Running.{finished};
+ghost use Rattle.schedule.specs.Schedule.{verifyData};
+ghost use Rattle.outputs.specs.Places.{basePlace};
 
-// Each place is passed alone, so that the whole session is not copied.
-fn base_place(side: u8, client: [u8; 48], server: [u8; 48]) -> [u8; 48]
-    ensures { λ r. ⌜ r ≡ cond (eqb side 1) client server ⌝ }
+// The base secret of a side.
+pub(crate) fn base_place(s: Session, side: u8) -> [u8; 48]
+    ensures { λ r. ⌜ r ≡ basePlace s side ⌝ }
 {
+    let mut r = s.server_handshake;
     if side == 1 {
-        return client;
+        let client = s.client_handshake;
+        r = client;
     }
-    server
+    r
 }
 
-// The Finished value of a side over the messages so far, with zeros behind it.
-pub(crate) fn finished_value(s: Session, side: u8) -> [u8; 48]
-    ensures { λ r. ⌜ r ≡ placed (finishedFrom s side) ⌝ }
+// The Finished value under a base secret, over a running hash, with zeros behind it.
+pub(crate) fn finished_value(suite: u16, base: [u8; 48], running: Running) -> [u8; 48]
+    ensures { λ r. ⌜ r ≡ placed (verifyData suite (take (hashLen suite) base) (take (hashLen suite) (finished (variantOf suite) running))) ⌝ }
 {
-    let suite = s.suite;
-    let running = s.transcript;
-    let client = s.client_handshake;
-    let server = s.server_handshake;
-    let base = base_place(side, client, server);
     let hash = finish(suite, running);
     verify_data(suite, base, hash)
 }

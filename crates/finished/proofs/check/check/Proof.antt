@@ -3,6 +3,7 @@ use native.Mathlib.Omega.{arith}
 use mathlib.Core.Bool.{true, false}
 use denote.Ref.{now}
 use Rattle.outputs.proofs.Answers.{check-refused, checked}
+use Rattle.finished.proofs.Handing.{value-is}
 use borrow.Author.Needs.{needs}
 use Rattle.finished.proofs.check.check.Statement.{statement}
 use Rattle.finished.proofs.check.check.Tie as tie
@@ -18,17 +19,15 @@ slice-aggregate-is-same c = simp length-take (omega arith)
 
 returns-2 : tie.Need-returns-2
 returns-2 c =
-    let a = c .before .before .before .before .before .before .before .before .args in
-    checked (a .s) (a .side) (now (a .received)) (c .before .before .before .before .before .before .check-number .ensures) true
-    (c .before .before .before .before .before .if1 .left) (c .before .before .before .before .hash-len .ensures .0)
-    (c .before .before .before .finished-value .ensures) (c .before .is-same .ensures) (c .if2 .taken)
+    let a = c .before .before .before .before .before .before .before .before .before .before .args in
+    checked (a .s) (a .side) (now (a .received)) (c .before .before .before .before .before .before .before .before .check-number .ensures) true (c .before .before .before .before .before .before .before .if1 .left) (c .before .before .before .before .before .before .hash-len .ensures .0)
+    (value-is (a .s) (a .side) (c .before .before .before .before .before .base-place .ensures) (c .before .before .before .finished-value .ensures)) (c .before .is-same .ensures) (c .if2 .taken)
 
 returns-3 : tie.Need-returns-3
 returns-3 c =
-    let a = c .before .before .before .before .before .before .before .before .args in
-    checked (a .s) (a .side) (now (a .received)) (c .before .before .before .before .before .before .check-number .ensures)
-    false (c .before .before .before .before .before .if1 .left) (c .before .before .before .before .hash-len .ensures .0)
-    (c .before .before .before .finished-value .ensures) (c .before .is-same .ensures) (c .if2 .left)
+    let a = c .before .before .before .before .before .before .before .before .before .before .args in
+    checked (a .s) (a .side) (now (a .received)) (c .before .before .before .before .before .before .before .before .check-number .ensures) false (c .before .before .before .before .before .before .before .if1 .left) (c .before .before .before .before .before .before .hash-len .ensures .0)
+    (value-is (a .s) (a .side) (c .before .before .before .before .before .base-place .ensures) (c .before .before .before .finished-value .ensures)) (c .before .is-same .ensures) (c .if2 .left)
 
 pub check-spec : {M : Type 1} → statement M
 check-spec =
@@ -37,6 +36,7 @@ check-spec =
     (λ c κs. search needs)
     (λ c κs. search needs)
     returns
+    (λ c κs. search needs)
     (λ c κs. search needs)
     (λ c κs. search needs)
     (λ c. search needs)

@@ -1,5 +1,6 @@
 use denote.Ref.{now}
 use Rattle.outputs.proofs.Answers.{finished-refused, finished-done}
+use Rattle.finished.proofs.Handing.{value-is}
 use borrow.Author.Needs.{needs}
 use Rattle.finished.proofs.finished.finished.Statement.{statement}
 use Rattle.finished.proofs.finished.finished.Tie as tie
@@ -12,11 +13,9 @@ returns c =
 
 returns-2 : tie.Need-returns-2
 returns-2 c =
-    let a = c .before .before .before .before .before .before .before .before .before .args in
-    finished-done (a .s) (a .side) (now (a .out))
-    (c .before .before .before .before .before .before .before .finished-number .ensures) (c .decided2 .result)
-    (c .before .before .before .before .before .before .if1 .left)
-    (c .before .before .before .before .before .finished-value .ensures) (c .before .before .before .write-value .ensures)
+    let a = c .before .before .before .before .before .before .before .before .before .before .before .args in
+    finished-done (a .s) (a .side) (now (a .out)) (c .before .before .before .before .before .before .before .before .before .finished-number .ensures) (c .decided2 .result) (c .before .before .before .before .before .before .before .before .if1 .left)
+    (value-is (a .s) (a .side) (c .before .before .before .before .before .before .before .base-place .ensures) (c .before .before .before .before .before .finished-value .ensures)) (c .before .before .before .write-value .ensures)
     (c .decided2 .ensures)
 
 pub finished-spec : {M : Type 1} → statement M
@@ -26,6 +25,7 @@ finished-spec =
     (λ c κs. search needs)
     (λ c κs. search needs)
     returns
+    (λ c κs. search needs)
     (λ c κs. search needs)
     (λ c κs. search needs)
     (λ c κs. search needs)
