@@ -1,5 +1,5 @@
-/* Bindcricket: the key schedule of TLS 1.3 (RFC 8446, section 7) and a journal of its calls, for C99 and C++. Link target/staticlib/libffi.a, which
- * `rt staticlib ffi` makes, by its path (`-lffi` is another library).
+/* Bindcricket: the key schedule of TLS 1.3 (RFC 8446, section 7) and a journal of its calls, for C99 and C++. Link
+ * target/staticlib/libbindcricket.a, which `tools/build-library` makes.
  *
  * Every function answers a number: 0 is done, 1 to 13 are the refusals below, 255 says that the session buffer does not
  * have BINDCRICKET_SESSION_BYTES bytes. The lowest refusal that applies is given. A call whose answer is not 0 changes no

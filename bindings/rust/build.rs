@@ -1,8 +1,7 @@
-//! Links the proved library, `libffi.a`, from the folder BINDCRICKET_LIB or from where `rt
-//! staticlib ffi` puts it.
+//! Links the proved library, `libbindcricket.a`, from the folder BINDCRICKET_LIB or from where
+//! `tools/build-library` puts it.
 
 use std::env;
-use std::fs;
 use std::path::{Path, PathBuf};
 
 fn main() {
@@ -12,20 +11,16 @@ fn main() {
         Some(folder) => PathBuf::from(folder),
         None => Path::new(env!("CARGO_MANIFEST_DIR")).join("../../target/staticlib"),
     };
-    let library = folder.join("libffi.a");
+    let library = folder.join("libbindcricket.a");
     println!("cargo::rerun-if-changed={}", library.display());
-
-    // Under a name of its own: many systems have another library that is called libffi.
-    let out = PathBuf::from(env::var_os("OUT_DIR").expect("cargo sets OUT_DIR"));
-    match fs::copy(&library, out.join("libbindcricket.a")) {
-        Ok(_) => {
-            println!("cargo::rustc-link-search=native={}", out.display());
-            println!("cargo::rustc-link-lib=static=bindcricket");
-        }
-        Err(error) => println!(
-            "cargo::error=cannot read {}: {error}. Run `rt staticlib ffi` in the root of the \
-             repository, or set BINDCRICKET_LIB to the folder (an absolute path) of libffi.a",
+    if library.is_file() {
+        println!("cargo::rustc-link-search=native={}", folder.display());
+        println!("cargo::rustc-link-lib=static=bindcricket");
+    } else {
+        println!(
+            "cargo::error=there is no {}. Run `tools/build-library` in the root of the repository, \
+             or set BINDCRICKET_LIB to the folder (an absolute path) of libbindcricket.a",
             library.display()
-        ),
+        );
     }
 }

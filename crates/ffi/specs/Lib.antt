@@ -1,3 +1,1 @@
-pub mod Reported
 pub mod Called
-pub mod Journals

@@ -5,7 +5,7 @@ ghost use Rattle.hmac.specs.Rfc2104.{hmac};
 ghost use Rattle.hkdf.specs.Rfc5869.{extract, expand};
 ghost use Rattle.hkdf.specs.Rfc8446.{expandLabel, deriveSecret};
 ghost use Rattle.hkdf.specs.Refusals.{macNumber, expandNumber, expandLabelNumber, deriveSecretNumber};
-ghost use Rattle.ffi.specs.Reported.{Reported};
+ghost use Rattle.refusal.specs.Reported.{Reported};
 
 #[no_mangle]
 pub extern "C" fn bindcricket_hash(
