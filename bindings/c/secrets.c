@@ -19,8 +19,8 @@
 
 enum {
     FRESH, BEGIN, FEED, EARLY, HANDSHAKE_X, HANDSHAKE, HANDSHAKE_SIZE, APPLICATION, COMPLETE, UPDATE, CLOSE, KEYS,
-    FINISHED, CHECK, CHECK_SIZE, BINDER, EXPORT, HASH, HMAC, EXTRACT, EXPAND, EXPAND_LABEL, DERIVE_SECRET, BRANCH,
-    INDEX, ANSWER, ROWS
+    FINISHED, CHECK, CHECK_SIZE, BINDER, EXPORT, HASH, HMAC, EXTRACT, EXPAND, EXPAND_LABEL, DERIVE_SECRET,
+    JOURNAL_WRITE, JOURNAL_READ, BRANCH, INDEX, ANSWER, ROWS
 };
 
 static struct {
@@ -50,6 +50,8 @@ static struct {
     {"expand", 0, {0}, {0}, {0}},
     {"expand_label", 0, {0}, {0}, {0}},
     {"derive_secret", 0, {0}, {0}, {0}},
+    {"journal_write", 0, {0}, {0}, {0}},
+    {"journal_read", 0, {0}, {0}, {0}},
     {"control: a branch", 0, {0}, {0}, {0}},
     {"control: an index", 0, {0}, {0}, {0}},
     {"control: an answer", 0, {0}, {0}, {0}},
@@ -272,6 +274,41 @@ static void below_the_session(void)
     WATCH(DERIVE_SECRET, bindcricket_derive_secret(suite, secret, h - 1, TEXT("label"), psk, 9, out, 48, &written));
 }
 
+/* Records whose bodies are secret, each written and read; their heads and numbers are not secret. */
+static void journals(void)
+{
+    static const struct {
+        uint16_t kind, number;
+        uint8_t small;
+        size_t head, body;
+    } records[] = {{1, BINDCRICKET_AES_128_GCM_SHA256, 1, 9, 77}, {2, 0, 0, 6, 100}, {4, BINDCRICKET_X25519, 0, 8, 32}};
+    struct {
+        size_t start, size, next;
+        uint16_t kind;
+    } told;
+    size_t i, end;
+    for (i = 0; i < sizeof records / sizeof *records; i++) {
+        end = records[i].head + records[i].body;
+        WATCH(JOURNAL_WRITE, bindcricket_journal_write(records[i].kind, records[i].number, records[i].small, secret,
+                                                       records[i].body, out, end - 1, &written));
+        require(JOURNAL_WRITE, answer == BINDCRICKET_OUTPUT_TOO_SHORT);
+        WATCH(JOURNAL_WRITE, bindcricket_journal_write(records[i].kind, records[i].number, records[i].small, secret,
+                                                       records[i].body, out, end, &written));
+        require(JOURNAL_WRITE, answer == 0 && written == end && !shows_secret(out, records[i].head));
+        memset(&told, 0, sizeof told);
+        WATCH(JOURNAL_READ,
+              bindcricket_journal_read(out, end, 0, &told.kind, &told.start, &told.size, &told.next));
+        require(JOURNAL_READ, answer == 0 && !shows_secret(&told, sizeof told) && told.kind == records[i].kind &&
+                                  told.start == 6 && told.size == end - 6 && told.next == end);
+        WATCH(JOURNAL_READ,
+              bindcricket_journal_read(out, end - 1, 0, &told.kind, &told.start, &told.size, &told.next));
+        require(JOURNAL_READ, answer == BINDCRICKET_DAMAGED_RECORD);
+        memmove(out, out + records[i].head, records[i].body);
+        (void)VALGRIND_MAKE_MEM_DEFINED(out + records[i].body, records[i].head);
+        require(JOURNAL_WRITE, depends(records[i].body));
+    }
+}
+
 /* ---- The leaks of the control ---- */
 
 static volatile unsigned branches_taken;
@@ -335,6 +372,7 @@ static void library(int closed)
                 whole_session(kind, BINDCRICKET_NO_GROUP, 0);
         }
         below_the_session();
+        journals();
     }
     if (!closed)
         printf("%-26s %5s %6s %9s %8s\n", "call", "suite", "calls", "branches", "results");
