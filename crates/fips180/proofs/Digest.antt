@@ -39,19 +39,13 @@ module _ (v : Variant) where
   length-digest s (suc i) = let h = length-digest s i in simp length-append (omega arith)
 
   -- the byte i of a digest, written over the first of the zeros behind the bytes before it
-  digest-next : (s : List ℕ) {d : List ℕ} {i x : ℕ} → i < 48 → d ≡ digestBytes s i ++ zeros (48 - i)
+  pub digest-next : (s : List ℕ) {d : List ℕ} {i x : ℕ} → i < 48 → d ≡ digestBytes s i ++ zeros (48 - i)
       → x ≡ (getD s (i / v .bytes) 0 / 2 ^ (v .bits - 8 - i % v .bytes * 8)) % 256
       → set d i x ≡ digestBytes s (i + 1) ++ zeros (48 - (i + 1))
   unfolding digestBytes zeros
   digest-next s {d} {i} {x} h e ex =
       let n : 48 - i ≡ suc (48 - (i + 1)) = omega arith in
       rw (e, n, set-at (digestBytes s i) 0 (zeros (48 - (i + 1))) x i (length-digest s i), add-one, append-assoc, ex)
-
-  -- the same where byte i is byte r of the word q, and j comes after it
-  pub digest-in-word : (s : List ℕ) {d : List ℕ} {i j q r : ℕ} → i < 48 → i / v .bytes ≡ q → i % v .bytes ≡ r → j ≡ i + 1
-      → d ≡ digestBytes s i ++ zeros (48 - i)
-      → set d i ((getD s q 0 / 2 ^ (v .bits - 8 - r * 8)) % 256) ≡ digestBytes s j ++ zeros (48 - j)
-  digest-in-word s h eq er ej e = rw ej (digest-next s h e (rw (eq, er) refl))
 
   pub digest-all : (s : List ℕ) {d : List ℕ} {i : ℕ} → i ≡ v .digest → d ≡ digestBytes s i ++ zeros (48 - i)
       → digestBytes s (v .digest) ≡ digestOf v s → d ≡ digestOf v s ++ zeros (48 - v .digest)

@@ -74,16 +74,11 @@ fn digest_words(s: [u32; 8]) -> [u8; 48]
     ensures { λ r. ⌜ r ≡ digestOf sha256 s ++ zeros 16 ⌝ }
 {
     let mut d = [0u8; 48];
-    let mut q: usize = 0;
-    while q < 8 {
-        let w = s[q];
-        let mut r: usize = 0;
-        while r < 4 {
-            let n = (24 - r * 8) as u32;
-            d[q * 4 + r] = ((w >> n) % 256) as u8;
-            r += 1;
-        }
-        q += 1;
+    let mut i: usize = 0;
+    while i < 32 {
+        let n = (24 - i % 4 * 8) as u32;
+        d[i] = ((s[i / 4] >> n) % 256) as u8;
+        i += 1;
     }
     d
 }

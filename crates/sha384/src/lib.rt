@@ -50,16 +50,11 @@ fn digest_words(s: [u64; 8]) -> [u8; 48]
     ensures { λ r. ⌜ r ≡ digestOf sha384 s ++ zeros 0 ⌝ }
 {
     let mut d = [0u8; 48];
-    let mut q: usize = 0;
-    while q < 6 {
-        let w = s[q];
-        let mut r: usize = 0;
-        while r < 8 {
-            let n = (56 - r * 8) as u64;
-            d[q * 8 + r] = ((w >> n) % 256) as u8;
-            r += 1;
-        }
-        q += 1;
+    let mut i: usize = 0;
+    while i < 48 {
+        let n = (56 - i % 8 * 8) as u64;
+        d[i] = ((s[i / 8] >> n) % 256) as u8;
+        i += 1;
     }
     d
 }
