@@ -18,10 +18,9 @@ use Rattle.suite.specs.Suite.{known, hashLen, blockLen, maxLabel}
 use Rattle.sha2.specs.Hash.{hash, maxInput}
 use Rattle.sha2.proofs.Whole.{length-hash}
 use Rattle.hkdf.specs.Rfc5869.{expand}
-use Rattle.hkdf.specs.Rfc8446.{expandLabel, deriveSecret, hkdfLabel, tls13}
+use Rattle.hkdf.specs.Rfc8446.{expandLabel, deriveSecret}
 use Rattle.hkdf.specs.Refusals.{macNumber, expandNumber, expandLabelNumber, deriveSecretNumber, askable, labelled, maxMessage, maxInfo, maxContext}
 use Rattle.hkdf.proofs.Values.{length-expand}
-use Rattle.hkdf.proofs.Labels.{length-label, info-is}
 
 -- a refusal, and an answer that is done, for a decision n and the bytes w to write
 module _ (n : ℕ) (w out : List ℕ) (small : n ≤ 13) where
@@ -131,14 +130,6 @@ module _ (suite secret label messages room : ℕ) where
       let l = and-true (leb 1 label) (leb label maxLabel) (not-false (labelled label) (d .0)) in
       (leb-true label maxLabel (l .1), ltb-false maxInput messages (c .0), ltb-false room (hashLen suite) (e .0))
 
--- what the code of Expand-Label and of Derive-Secret leaves in the output
-pub label-is : (suite : ℕ) (secret label context : List ℕ) (asked : ℕ) (zs out : List ℕ) {size : ℕ} {info after′ : List ℕ}
-    → size ≡ length (hkdfLabel tls13 asked label context) → info ≡ fronted (hkdfLabel tls13 asked label context) zs
-    → after′ ≡ fronted (expand suite secret (take size info) asked) out → after′ ≡ fronted (expandLabel suite secret label context asked) out
-unfolding expandLabel
-label-is suite secret label context asked zs out es ei ea =
-    ea ∙ ap (λ (i : List ℕ). fronted (expand suite secret i asked) out) (info-is asked label context zs es ei)
-
 pub length-expandLabel : (suite : ℕ) (secret label context : List ℕ) (asked : ℕ) → length (expandLabel suite secret label context asked) ≡ asked
 unfolding expandLabel
 length-expandLabel suite secret label context asked = length-expand suite secret _ asked
@@ -147,20 +138,14 @@ length-expandLabel suite secret label context asked = length-expand suite secret
 pub uncut : (suite : ℕ) (m : List ℕ) {d : List ℕ} → length m ≤ maxInput → d ≡ placed (hash suite (take maxInput m)) → d ≡ placed (hash suite m)
 uncut suite m h e = e ∙ ap (λ (x : List ℕ). placed (hash suite x)) (take-all maxInput m h)
 
-pub derive-is : (suite h : ℕ) (secret label messages zs out : List ℕ) {size : ℕ} {d info after′ : List ℕ} → h ≡ hashLen suite
-    → d ≡ placed (hash suite messages) → size ≡ length (hkdfLabel tls13 h label (take h d)) → info ≡ fronted (hkdfLabel tls13 h label (take h d)) zs
-    → after′ ≡ fronted (expand suite secret (take size info) h) out → after′ ≡ fronted (deriveSecret suite secret label messages) out
+-- what the code of Derive-Secret leaves in the output
+pub derive-is : (suite h : ℕ) (secret label messages out : List ℕ) {d after′ : List ℕ} → h ≡ hashLen suite → d ≡ placed (hash suite messages)
+    → after′ ≡ fronted (expandLabel suite secret label (take h d) h) out → after′ ≡ fronted (deriveSecret suite secret label messages) out
 unfolding deriveSecret
-derive-is suite h secret label messages zs out {size} {d} eh ed es ei ea =
+derive-is suite h secret label messages out {d} eh ed ea =
     let c : take h d ≡ hash suite messages = ap (take h) ed ∙ take-placed h (hash suite messages) (length-hash suite messages ∙ sym eh) in
-    label-is suite secret label (take h d) h zs out es ei ea
-    ∙ rw c (ap (λ (n : ℕ). fronted (expandLabel suite secret label (hash suite messages) n) out) eh)
+    ea ∙ rw c (ap (λ (n : ℕ). fronted (expandLabel suite secret label (hash suite messages) n) out) eh)
 
 pub length-deriveSecret : (suite : ℕ) (secret label messages : List ℕ) → length (deriveSecret suite secret label messages) ≡ hashLen suite
 unfolding deriveSecret
 length-deriveSecret suite secret label messages = length-expandLabel suite secret label (hash suite messages) (hashLen suite)
-
--- the size of a label's info
-pub info-size : (asked : ℕ) (label context : List ℕ) {size : ℕ} → size ≡ length (hkdfLabel tls13 asked label context) → length label ≤ 249
-    → length context ≤ 255 → size ≤ 514
-info-size asked label context e hl hc = let l = length-label asked label context in omega arith

@@ -1,55 +1,74 @@
--- Laws of the HkdfLabel as the code lays it out.
+-- Laws of the info in parts: absorbed under a prepared key, and as the HkdfLabel.
 use Prim.Native.Nat.{ℕ, _+_, _/_, _%_, _≤_}
-use mathlib.Core.Path.{_≡_, sym, ap, _∙_}
-use mathlib.Core.List.{List, [], _∷_, _++_}
+use mathlib.Core.Path.{_≡_, refl, sym, ap, _∙_}
+use mathlib.Core.List.{List, [], _∷_, _++_, append-nil}
 use native.Mathlib.Omega.{arith}
-use lib.ListN.{length, take, drop, length-append}
-use lib.Seq.{take-at}
-use Rattle.buffer.specs.Buffer.{fronted, after, behind}
-use Rattle.buffer.proofs.Laws.{Wrote, none, more, length-fronted}
-use Rattle.hkdf.specs.Rfc8446.{tls13, hkdfLabel}
+use lib.ListN.{length, length-append}
+use Rattle.buffer.specs.Buffer.{zeros, fronted}
+use Rattle.suite.specs.Suite.{blockLen}
+use Rattle.sha2.specs.declared.running.Running.{Running}
+use Rattle.sha2.specs.Variants.{variantOf}
+use Rattle.sha2.specs.Running.{run, absorbed}
+use Rattle.sha2.proofs.Absorbing.{absorbed-append}
+use Rattle.hmac.specs.declared.Keyed.{Keyed}
+use Rattle.hmac.specs.Keyed.{closed, macOf}
+use Rattle.hkdf.specs.Rfc5869.{expand}
+use Rattle.hkdf.specs.Rfc8446.{tls13, hkdfLabel, expandLabel}
+
+-- ---- one block
+
+module _ (suite : ℕ) (a b c d : List ℕ) where
+  -- the block before, the info in four parts, and the number
+  pub parts-absorbed : (state block t : List ℕ) (i : ℕ) {n : ℕ} {u v w x y z : Running} → n ≡ blockLen suite
+      → u ≡ absorbed (variantOf suite) (run state block n) t → v ≡ absorbed (variantOf suite) u a → w ≡ absorbed (variantOf suite) v b
+      → x ≡ absorbed (variantOf suite) w c → y ≡ absorbed (variantOf suite) x d → z ≡ absorbed (variantOf suite) y (i ∷ [])
+      → z ≡ absorbed (variantOf suite) (run state block (blockLen suite)) (t ++ ((a ++ b ++ c ++ d) ++ (i ∷ [])))
+  parts-absorbed state block t i en eu ev ew ex ey ez =
+      let o = variantOf suite in
+      let h = run state block (blockLen suite) in
+      let g = absorbed o h t in
+      ez
+      ∙ rw (ey, ex, ew, ev, eu, en, absorbed-append o h t ((a ++ b ++ c ++ d) ++ (i ∷ [])), absorbed-append o g (a ++ b ++ c ++ d) (i ∷ []), absorbed-append o g (a ++ b ++ c) d, absorbed-append o g (a ++ b) c, absorbed-append o g a b)
+
+pub block-is : (suite : ℕ) (k : Keyed) (text : List ℕ) {i : Running} {r held : List ℕ} → held ≡ zeros 128
+    → i ≡ absorbed (variantOf suite) (run (k .inner) held (blockLen suite)) text → r ≡ closed suite (k .outer) i → r ≡ macOf suite k text
+unfolding macOf
+block-is suite k text eh ei er = er ∙ rw (ei, eh)
+
+-- ---- the whole info
+
+-- an info that is one part
+info-alone : (m : List ℕ) → m ++ [] ++ [] ++ [] ≡ m
+info-alone m = simp append-nil
+
+pub alone-size : (m : List ℕ) → length m ≤ 1024 → length (m ++ [] ++ [] ++ []) ≤ 1024
+alone-size m h = rw (info-alone m) h
+
+pub alone-is : (suite : ℕ) (secret m : List ℕ) (asked : ℕ) (out : List ℕ) {after′ : List ℕ}
+    → after′ ≡ fronted (expand suite secret (m ++ [] ++ [] ++ []) asked) out → after′ ≡ fronted (expand suite secret m asked) out
+alone-is suite secret m asked out e = e ∙ ap (λ (i : List ℕ). fronted (expand suite secret i asked) out) (info-alone m)
 
 pub length-label : (asked : ℕ) (label context : List ℕ) → length (hkdfLabel tls13 asked label context) ≡ 10 + length label + length context
 unfolding hkdfLabel
 length-label asked label context = simp length-append (omega arith)
 
--- a run of writes still fits, since the buffer is as long as it was
-fit : {old buf p : List ℕ} {at : ℕ} (bs : List ℕ) → Wrote old buf at p → length p + length bs ≤ length old → at + length bs ≤ length buf
-fit {old} {buf} {p} {at} bs w h =
-    let l : length buf ≡ length old = ap length (w .bytes) ∙ length-fronted p old (omega arith) in
-    let u = w .upto in
+-- the HkdfLabel as the code lays it out
+pub label-parts : (asked : ℕ) (label context : List ℕ)
+    → (asked / 256 % 256 ∷ asked % 256 ∷ (6 + length label) % 256 ∷ tls13) ++ label ++ (length context % 256 ∷ []) ++ context ≡ hkdfLabel tls13 asked label context
+unfolding hkdfLabel
+label-parts asked label context = refl
+
+pub label-size : (asked : ℕ) (label context : List ℕ) → length label ≤ 249 → length context ≤ 255
+    → length ((asked / 256 % 256 ∷ asked % 256 ∷ (6 + length label) % 256 ∷ tls13) ++ label ++ (length context % 256 ∷ []) ++ context) ≤ 1024
+label-size asked label context hl hc =
+    let e = ap length (label-parts asked label context) in
+    let l = length-label asked label context in
     omega arith
 
-pub label-put : (asked : ℕ) (label context : List ℕ) (old : List ℕ) {head : List ℕ} {size : List ℕ} {a b c d e : ℕ} {i1 i2 i3 i4 i5 : List ℕ}
-    → length label ≤ 249 → length context ≤ 255 → 514 ≤ length old
-    → head ≡ asked / 256 % 256 ∷ asked % 256 ∷ (6 + length label) % 256 ∷ [] → size ≡ length context % 256 ∷ []
-    → a ≡ behind 0 head old → i1 ≡ after 0 head old → b ≡ behind a tls13 i1 → i2 ≡ after a tls13 i1
-    → c ≡ behind b label i2 → i3 ≡ after b label i2 → d ≡ behind c size i3 → i4 ≡ after c size i3
-    → e ≡ behind d context i4 → i5 ≡ after d context i4
-    → (e ≡ length (hkdfLabel tls13 asked label context)) × (i5 ≡ fronted (hkdfLabel tls13 asked label context) old)
-unfolding hkdfLabel
-label-put asked label context old {head} {size} {a} {b} {c} {d} {e} {i1} {i2} {i3} {i4} {i5} hl hc room eh es ea e1 eb e2 ec e3 ed e4 ee e5 =
-    let lh : length head ≡ 3 = ap length eh in
-    let ls : length size ≡ 1 = ap length es in
-    let p1 : List ℕ = [] ++ head in
-    let w1 = more head (none old) (fit head (none old) (omega arith)) ea e1 in
-    let l1 : length p1 ≡ 3 = lh in
-    let w2 = more tls13 w1 (fit tls13 w1 (omega arith)) eb e2 in
-    let p2 : List ℕ = p1 ++ tls13 in
-    let l2 : length p2 ≡ 9 = length-append p1 tls13 ∙ omega arith in
-    let w3 = more label w2 (fit label w2 (omega arith)) ec e3 in
-    let p3 : List ℕ = p2 ++ label in
-    let l3 : length p3 ≡ 9 + length label = length-append p2 label ∙ omega arith in
-    let w4 = more size w3 (fit size w3 (omega arith)) ed e4 in
-    let p4 : List ℕ = p3 ++ size in
-    let l4 : length p4 ≡ 10 + length label = length-append p3 size ∙ omega arith in
-    let w5 = more context w4 (fit context w4 (omega arith)) ee e5 in
-    let same : p4 ++ context ≡ (asked / 256 % 256 ∷ asked % 256 ∷ (6 + length label) % 256 ∷ []) ++ tls13 ++ label ++ (length context % 256 ∷ []) ++ context = rw (eh, es) in
-    (w5 .upto ∙ ap length same, w5 .bytes ∙ ap (λ (l : List ℕ). fronted l old) same)
-
--- the info that the code hands on
-pub info-is : (asked : ℕ) (label context zeros : List ℕ) {size : ℕ} {info : List ℕ} → size ≡ length (hkdfLabel tls13 asked label context)
-    → info ≡ fronted (hkdfLabel tls13 asked label context) zeros → take size info ≡ hkdfLabel tls13 asked label context
-unfolding fronted
-info-is asked label context zeros {size} es ei =
-    ap (take size) ei ∙ take-at (hkdfLabel tls13 asked label context) (drop (length (hkdfLabel tls13 asked label context)) zeros) size (sym es)
+-- what the code of Expand-Label leaves in the output
+pub label-is : (suite : ℕ) (secret label context : List ℕ) (asked : ℕ) (out : List ℕ) {after′ : List ℕ}
+    → after′ ≡ fronted (expand suite secret ((asked / 256 % 256 ∷ asked % 256 ∷ (6 + length label) % 256 ∷ tls13) ++ label ++ (length context % 256 ∷ []) ++ context) asked) out
+    → after′ ≡ fronted (expandLabel suite secret label context asked) out
+unfolding expandLabel
+label-is suite secret label context asked out e =
+    e ∙ ap (λ (i : List ℕ). fronted (expand suite secret i asked) out) (label-parts asked label context)

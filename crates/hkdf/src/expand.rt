@@ -1,22 +1,81 @@
 // HKDF-Expand.
 use super::numbers::expand_number;
-use hmac::mac;
+use hmac::Keyed;
+use hmac::close;
 use hmac::prepare;
 use refusal::Answer;
+use sha2::running::absorb_in_place;
 use suite::Suite;
 ghost use mathlib.Core.Path.{_≡_};
+ghost use mathlib.Core.List.{[], _∷_, _++_};
 ghost use Prim.Native.Nat.{_*_, _≤_};
 ghost use lib.ListN.{length};
 ghost use Rattle.buffer.specs.Buffer.{fronted};
 ghost use Rattle.refusal.specs.Answered.{Answered};
-ghost use Rattle.suite.specs.Suite.{hashLen};
+ghost use Rattle.suite.specs.Suite.{hashLen, blockLen};
+ghost use Rattle.sha2.specs.Variants.{variantOf};
+ghost use Rattle.sha2.specs.Running.{run, absorbed};
+ghost use Rattle.hmac.specs.Keyed.{macOf};
 ghost use Rattle.hkdf.specs.Rfc5869.{expand};
 ghost use Rattle.hkdf.specs.Refusals.{expandNumber};
 
-// Writes the asked bytes, a block at a time, each at its own place, the last cut short.
-pub(crate) fn fill(suite: u16, secret: &[u8], info: &[u8], asked: usize, out: &mut [u8])
-    requires { ⌜ (length (now info) ≤ 1024) × (asked ≤ 255 * hashLen suite) × (asked ≤ length (now out)) ⌝ }
-    ensures { λ _. ⌜ now (out .exit) ≡ fronted (expand suite (now (secret .entry)) (now (info .entry)) asked) (now (out .entry)) ⌝ }
+// Absorbs the block before, the info in its four parts and the next block's number, after a pad. Answers the count after it.
+fn absorb_parts(
+    suite: u16,
+    state: &mut [u64; 8],
+    block: &mut [u8; 128],
+    t: &[u8],
+    a: &[u8],
+    b: &[u8],
+    c: &[u8],
+    d: &[u8],
+    i: u8,
+) -> u64
+    ensures { λ r. ⌜ run (now (state .exit)) (now (block .exit)) r ≡ absorbed (variantOf suite) (run (now (state .entry)) (now (block .entry)) (blockLen suite)) (now (t .entry) ++ ((now (a .entry) ++ now (b .entry) ++ now (c .entry) ++ now (d .entry)) ++ (i ∷ []))) ⌝ }
+{
+    let number = [i];
+    let n = Suite::block_len(suite) as u64;
+    let u = absorb_in_place(suite, state, block, n, t);
+    let v = absorb_in_place(suite, state, block, u, a);
+    let w = absorb_in_place(suite, state, block, v, b);
+    let x = absorb_in_place(suite, state, block, w, c);
+    let y = absorb_in_place(suite, state, block, x, d);
+    absorb_in_place(suite, state, block, y, &number)
+}
+
+// The block T(i) that follows the block t, of an info in four parts.
+fn next_block(
+    suite: u16,
+    k: Keyed,
+    t: &[u8],
+    a: &[u8],
+    b: &[u8],
+    c: &[u8],
+    d: &[u8],
+    i: u8,
+) -> [u8; 48]
+    ensures { λ r. ⌜ r ≡ macOf suite k (now (t .entry) ++ ((now (a .entry) ++ now (b .entry) ++ now (c .entry) ++ now (d .entry)) ++ (i ∷ []))) ⌝ }
+{
+    let outer = k.outer;
+    let mut state = k.inner;
+    let mut block = buffer::zeros128();
+    let count = absorb_parts(suite, &mut state, &mut block, t, a, b, c, d, i);
+    close(suite, outer, &mut state, &mut block, count)
+}
+
+// Writes the asked bytes for the info a, b, c, d, a block at a time, each at its own place, the last cut short.
+pub(crate) fn fill(
+    suite: u16,
+    secret: &[u8],
+    a: &[u8],
+    b: &[u8],
+    c: &[u8],
+    d: &[u8],
+    asked: usize,
+    out: &mut [u8],
+)
+    requires { ⌜ (length (now a ++ now b ++ now c ++ now d) ≤ 1024) × (asked ≤ 255 * hashLen suite) × (asked ≤ length (now out)) ⌝ }
+    ensures { λ _. ⌜ now (out .exit) ≡ fronted (expand suite (now (secret .entry)) (now (a .entry) ++ now (b .entry) ++ now (c .entry) ++ now (d .entry)) asked) (now (out .entry)) ⌝ }
 {
     let h = Suite::hash_len(suite);
     let k = prepare(suite, secret);
@@ -26,8 +85,7 @@ pub(crate) fn fill(suite: u16, secret: &[u8], info: &[u8], asked: usize, out: &m
     let mut at: usize = 0;
     while at < asked {
         i = i + 1;
-        let counter = [i];
-        let y = mac(suite, k, &t[..size], info, &counter);
+        let y = next_block(suite, k, &t[..size], a, b, c, d, i);
         t = y;
         size = h;
         let n = buffer::least(h, asked - at);
@@ -44,6 +102,15 @@ pub fn expand(suite: u16, secret: &[u8], info: &[u8], asked: usize, out: &mut [u
     if number != 0 {
         return Answer::decided(number, 0);
     }
-    fill(suite, secret, info, asked, out);
+    fill(
+        suite,
+        secret,
+        info,
+        &info[..0],
+        &info[..0],
+        &info[..0],
+        asked,
+        out,
+    );
     Answer::decided(0, asked)
 }

@@ -6,29 +6,32 @@ use oneshot::digest;
 use refusal::Answer;
 use suite::Suite;
 ghost use mathlib.Core.Path.{_≡_};
-ghost use Prim.Native.Nat.{_≤_, _<_};
+ghost use Prim.Native.Nat.{_*_, _≤_};
 ghost use lib.ListN.{length};
 ghost use Rattle.buffer.specs.Buffer.{fronted};
 ghost use Rattle.refusal.specs.Answered.{Answered};
-ghost use Rattle.hkdf.specs.Rfc8446.{tls13, hkdfLabel, expandLabel, deriveSecret};
+ghost use Rattle.suite.specs.Suite.{hashLen};
+ghost use Rattle.hkdf.specs.Rfc8446.{expandLabel, deriveSecret};
 ghost use Rattle.hkdf.specs.Refusals.{expandLabelNumber, deriveSecretNumber};
 
-// Writes the HkdfLabel of an asked length, a label and a context to the front of info, and answers its length.
-fn put_label(asked: usize, label: &[u8], context: &[u8], info: &mut [u8]) -> usize
-    requires { ⌜ (length (now label) ≤ 249) × (length (now context) ≤ 255) × (514 ≤ length (now info)) ⌝ }
-    ensures { λ r. ⌜ (r ≡ length (hkdfLabel tls13 asked (now (label .entry)) (now (context .entry)))) × (now (info .exit) ≡ fronted (hkdfLabel tls13 asked (now (label .entry)) (now (context .entry))) (now (info .entry))) ⌝ }
+// Writes the asked bytes of Expand-Label to the front of out.
+fn fill_label(suite: u16, secret: &[u8], label: &[u8], context: &[u8], asked: usize, out: &mut [u8])
+    requires { ⌜ (length (now label) ≤ 249) × (length (now context) ≤ 255) × (asked ≤ 255 * hashLen suite) × (asked ≤ length (now out)) ⌝ }
+    ensures { λ _. ⌜ now (out .exit) ≡ fronted (expandLabel suite (now (secret .entry)) (now (label .entry)) (now (context .entry)) asked) (now (out .entry)) ⌝ }
 {
     let head = [
         (asked / 256 % 256) as u8,
         (asked % 256) as u8,
         ((6 + label.len()) % 256) as u8,
+        0x74,
+        0x6c,
+        0x73,
+        0x31,
+        0x33,
+        0x20,
     ];
-    let a = buffer::put(info, 0, &head);
-    let b = buffer::put(info, a, b"tls13 ");
-    let c = buffer::put(info, b, label);
     let size = [(context.len() % 256) as u8];
-    let d = buffer::put(info, c, &size);
-    buffer::put(info, d, context)
+    fill(suite, secret, &head, label, &size, context, asked, out);
 }
 
 // Writes the asked bytes of Expand-Label(secret, label, context, asked) to the front of out. Refusals 2, 4, 10 and 11.
@@ -53,9 +56,7 @@ pub fn expand_label(
     if number != 0 {
         return Answer::decided(number, 0);
     }
-    let mut info = [0u8; 514];
-    let size = put_label(asked, label, context, &mut info);
-    fill(suite, secret, &info[..size], asked, out);
+    fill_label(suite, secret, label, context, asked, out);
     Answer::decided(0, asked)
 }
 
@@ -76,8 +77,6 @@ pub fn derive_secret(
     }
     let h = Suite::hash_len(suite);
     let context = digest(suite, messages);
-    let mut info = [0u8; 514];
-    let size = put_label(h, label, &context[..h], &mut info);
-    fill(suite, secret, &info[..size], h, out);
+    fill_label(suite, secret, label, &context[..h], h, out);
     Answer::decided(0, h)
 }

@@ -1,4 +1,6 @@
+use Prim.Native.Nat.{_≤_}
 use Rattle.hkdf.proofs.Values.{length-expand}
+use Rattle.hkdf.proofs.Labels.{alone-is, alone-size}
 use Rattle.hkdf.proofs.Calls.{call-refused, call-done, expand-small, expand-fits}
 use denote.Ref.{now}
 use lib.ListN.{length}
@@ -16,18 +18,19 @@ returns c =
 
 fill-requires : tie.Need-fill-requires
 fill-requires c κs =
-    let a = c .before .before .before .before .before .before .args in
-    expand-fits (a .suite) (length (now (a .secret))) (length (now (a .info))) (a .asked) (length (now (a .out)))
-    (c .before .before .expand-number .ensures) (c .before .if1 .left)
+    let a = c .before .before .before .before .before .before .before .before .before .args in
+    let f = expand-fits (a .suite) (length (now (a .secret))) (length (now (a .info))) (a .asked) (length (now (a .out)))
+    (c .before .before .before .before .before .expand-number .ensures) (c .before .before .before .before .if1 .left) in
+    (alone-size (now (a .info)) (f .0), f .1, f .2)
 
 returns-2 : tie.Need-returns-2
 returns-2 c =
-    let a = c .before .before .before .before .before .before .before .before .before .before .args in
+    let a = c .before .before .before .before .before .before .before .before .before .before .before .before .before .args in
     call-done _ _ (now (a .out))
     (expand-small (a .suite) (length (now (a .secret))) (length (now (a .info))) (a .asked) (length (now (a .out))))
-    (c .before .before .before .before .before .before .expand-number .ensures)
-    (c .before .before .before .before .before .if1 .left) (sym (length-expand _ _ _ _))
-    (c .before .before .before .fill .ensures) (c .decided2 .ensures)
+    (c .before .before .before .before .before .before .before .before .before .expand-number .ensures)
+    (c .before .before .before .before .before .before .before .before .if1 .left) (sym (length-expand _ _ _ _))
+    (alone-is _ _ (now (a .info)) (a .asked) (now (a .out)) (c .before .before .before .fill .ensures)) (c .decided2 .ensures)
 
 pub expand-spec : {M : Type 1} → statement M
 expand-spec =
@@ -36,6 +39,9 @@ expand-spec =
     (λ c κs. search needs)
     (λ c κs. search needs)
     returns
+    (λ c. search needs)
+    (λ c. search needs)
+    (λ c. search needs)
     fill-requires
     (λ c κs. search needs)
     (λ c. search needs)

@@ -5,6 +5,7 @@ use Rattle.suite.specs.Suite.{hashLen}
 use Rattle.hmac.proofs.Prepared.{mac-under}
 use denote.Ref.{now}
 use mathlib.Core.Path.{_≡_}
+use mathlib.Core.List.{_++_}
 use lib.ListN.{length, take, length-take}
 use Prim.Native.Nat.{_+_, _-_, _*_, _≤_}
 use native.Mathlib.Omega.{arith}
@@ -13,14 +14,14 @@ use Rattle.hkdf.proofs.expand.fill.Statement.{statement}
 use Rattle.hkdf.proofs.expand.fill.Tie as tie
 
 abbrev Inv-loop : tie.InvT-loop
-Inv-loop suite secret info asked out₀ h k t₀ size₀ i₀ at₀ out t size i at = Filling suite secret info asked out₀ h out t size i at × (k ≡ keyedOf suite secret) × (length info ≤ 1024) × (asked ≤ 255 * hashLen suite) × (asked ≤ length out₀)
+Inv-loop suite secret a b c d asked out₀ h k t₀ size₀ i₀ at₀ out t size i at = Filling suite secret (a ++ b ++ c ++ d) asked out₀ h out t size i at × (k ≡ keyedOf suite secret) × (length (a ++ b ++ c ++ d) ≤ 1024) × (asked ≤ 255 * hashLen suite) × (asked ≤ length out₀)
 
 abbrev μ-loop : tie.MeasureT-loop
-μ-loop suite secret info asked out₀ h k t₀ size₀ i₀ at₀ out t size i at = asked - at
+μ-loop suite secret a b c d asked out₀ h k t₀ size₀ i₀ at₀ out t size i at = asked - at
 
 loop-holds : tie.Need-loop-holds Inv-loop μ-loop
 loop-holds c =
-    let p = c .before .before .before .before .before .before .pre in
+    let p = c .before .before .before .before .before .before .before .before .before .pre in
     (start _ _ _ _ _ _ (c .before .before .hash-len .ensures .0) (c .zeros48 .ensures), c .before .prepare .ensures, p .0, p .1, p .2)
 
 add-i : tie.Need-add-i Inv-loop μ-loop
@@ -29,29 +30,30 @@ add-i c = let i = c .before .loop .inv in omega (arith, next-small _ _ _ _ _ _ _
 array-share-prefix-t : tie.Need-array-share-prefix-t Inv-loop μ-loop
 array-share-prefix-t c = omega (arith, c .before .loop .inv .0)
 
-slice-aggregate-mac : tie.Need-slice-aggregate-mac Inv-loop μ-loop
-slice-aggregate-mac c = let f = c .before .before .loop .inv .0 in simp length-take (omega (arith, f .small, f .wide))
+slice-aggregate-next-block : tie.Need-slice-aggregate-next-block Inv-loop μ-loop
+slice-aggregate-next-block c = let f = c .before .before .loop .inv .0 in simp length-take (omega (arith, f .small, f .wide))
 
 slice-aggregate-put : tie.Need-slice-aggregate-put Inv-loop μ-loop
 slice-aggregate-put c = simp length-take (omega arith)
 
 loop-less : tie.Need-loop-less Inv-loop μ-loop
 loop-less c =
-    let l = c .before .before .before .before .before .before .before .before .before .before .loop in
+    let l = c .before .before .before .before .before .before .before .before .before .loop in
     let n = some-hash
-    (c .before .before .before .before .before .before .before .before .before .before .before .before .before .before .before .before .before .args .suite) in
+    (c .before .before .before .before .before .before .before .before .before .before .before .before .before .before .before .before .before .before .before .args .suite) in
     omega
-    (arith, c .before .before .before .before .before .least .ensures, l .inv .0 .hash, c .before .before .before .before .before .before .before .before .before .loop-test .taken)
+    (arith, c .before .before .before .before .before .least .ensures, l .inv .0 .hash, c .before .before .before .before .before .before .before .before .loop-test .taken)
 
 loop-again : tie.Need-loop-again Inv-loop μ-loop
 loop-again c =
-    let a = c .before .before .before .before .before .before .before .before .before .before .before .before .before .before .before .before .before .args in
-    let l = c .before .before .before .before .before .before .before .before .before .before .loop in
+    let a = c .before .before .before .before .before .before .before .before .before .before .before .before .before .before .before .before .before .before .before .args in
+    let l = c .before .before .before .before .before .before .before .before .before .loop in
     let i = l .inv in
     let p = take (l .size) (l .t) in
-    let w : length p + (length (now (a .info)) + 1) ≤ 2097152 = simp length-take (omega (arith, i .0 .small, i .0 .wide, i .2)) in
-    let m = mac-under (a .suite) (now (a .secret)) p (now (a .info)) _ w (i .1) (c .before .before .before .before .before .before .mac .ensures) in
-    (turn _ _ _ _ _ _ _ _ _ _ _ (i .0) _ _ _ (i .4) (c .before .before .before .before .before .before .before .before .before .loop-test .taken) (c .before .before .before .before .before .least .ensures) m (c .before .before .put .ensures .1), i .1, i .2, i .3, i .4)
+    let info = now (a .a) ++ now (a .b) ++ now (a .c) ++ now (a .d) in
+    let w : length p + (length info + 1) ≤ 2097152 = simp length-take (omega (arith, i .0 .small, i .0 .wide, i .2)) in
+    let m = mac-under (a .suite) (now (a .secret)) p info _ w (i .1) (c .before .before .before .before .before .before .next-block .ensures) in
+    (turn _ _ _ _ _ _ _ _ _ _ _ (i .0) _ _ _ (i .4) (c .before .before .before .before .before .before .before .before .loop-test .taken) (c .before .before .before .before .before .least .ensures) m (c .before .before .put .ensures .1), i .1, i .2, i .3, i .4)
 
 same-length : tie.Need-same-length Inv-loop μ-loop
 same-length c = c .before .loop .inv .0 .long
@@ -71,8 +73,7 @@ fill-spec =
     loop-holds
     add-i
     array-share-prefix-t
-    slice-aggregate-mac
-    (λ c. search needs)
+    slice-aggregate-next-block
     (λ c κs. search needs)
     (λ c. search needs)
     (λ c κs. search needs)

@@ -1,5 +1,5 @@
 use Prim.Native.Nat.{_≤_}
-use Rattle.hkdf.proofs.Calls.{call-refused, call-done, derive-small, derive-fits, derive-is, uncut, length-deriveSecret, info-size}
+use Rattle.hkdf.proofs.Calls.{call-refused, call-done, derive-small, derive-fits, derive-is, uncut, length-deriveSecret}
 use denote.Ref.{now}
 use lib.ListN.{length, length-take, take}
 use native.Mathlib.Omega.{arith}
@@ -15,74 +15,30 @@ returns c =
     (derive-small (a .suite) (length (now (a .secret))) (length (now (a .label))) (length (now (a .messages))) (length (now (a .out))))
     (c .before .before .derive-secret-number .ensures) (c .before .if1 .taken) (c .decided .ensures)
 
-slice-aggregate-put-label : tie.Need-slice-aggregate-put-label
-slice-aggregate-put-label c = simp length-take (omega arith)
+slice-aggregate-fill-label : tie.Need-slice-aggregate-fill-label
+slice-aggregate-fill-label c = simp length-take (omega arith)
 
-put-label-requires : tie.Need-put-label-requires
-put-label-requires c κs =
+fill-label-requires : tie.Need-fill-label-requires
+fill-label-requires c κs =
     let a = c .before .before .before .before .before .before .before .before .before .before .args in
     let f = derive-fits (a .suite) (length (now (a .secret))) (length (now (a .label))) (length (now (a .messages)))
-    (length (now (a .out))) (c .before .before .before .before .before .derive-secret-number .ensures)
-    (c .before .before .before .before .if1 .left) in
+    (length (now (a .out))) (c .before .before .before .before .before .derive-secret-number .ensures) (c .before .before .before .before .if1 .left) in
     let h = c .before .before .before .hash-len in
     let x = take (h .result) (c .before .before .digest .result) in
     let l : length x ≤ 255 = simp length-take (omega (arith, h .ensures .1)) in
-    (f .0, l, omega arith)
-
-array-share-prefix-info : tie.Need-array-share-prefix-info
-array-share-prefix-info c =
-    let a = c .before .before .before .before .before .before .before .before .before .before .before .before .args in
-    let f = derive-fits (a .suite) (length (now (a .secret))) (length (now (a .label))) (length (now (a .messages)))
-    (length (now (a .out)))
-    (c .before .before .before .before .before .before .before .derive-secret-number .ensures)
-    (c .before .before .before .before .before .before .if1 .left) in
-    let h = c .before .before .before .before .before .hash-len in
-    let x = take (h .result) (c .before .before .before .before .digest .result) in
-    let l : length x ≤ 255 = simp length-take (omega (arith, h .ensures .1)) in
-    let s = info-size (h .result) (now (a .label)) x (c .before .put-label .ensures .0) (f .0) l in
-    omega arith
-
-slice-aggregate-fill : tie.Need-slice-aggregate-fill
-slice-aggregate-fill c =
-    let a = c .before .before .before .before .before .before .before .before .before .before .before .before .before .args in
-    let f = derive-fits (a .suite) (length (now (a .secret))) (length (now (a .label))) (length (now (a .messages)))
-    (length (now (a .out)))
-    (c .before .before .before .before .before .before .before .before .derive-secret-number .ensures)
-    (c .before .before .before .before .before .before .before .if1 .left) in
-    let h = c .before .before .before .before .before .before .hash-len in
-    let x = take (h .result) (c .before .before .before .before .before .digest .result) in
-    let l : length x ≤ 255 = simp length-take (omega (arith, h .ensures .1)) in
-    let s = info-size (h .result) (now (a .label)) x (c .before .before .put-label .ensures .0) (f .0) l in
-    simp length-take (omega arith)
-
-fill-requires : tie.Need-fill-requires
-fill-requires c κs =
-    let a = c .before .before .before .before .before .before .before .before .before .before .before .before .before .before .args in
-    let f = derive-fits (a .suite) (length (now (a .secret))) (length (now (a .label))) (length (now (a .messages)))
-    (length (now (a .out)))
-    (c .before .before .before .before .before .before .before .before .before .derive-secret-number .ensures)
-    (c .before .before .before .before .before .before .before .before .if1 .left) in
-    let h = c .before .before .before .before .before .before .before .hash-len in
-    let x = take (h .result) (c .before .before .before .before .before .before .digest .result) in
-    let l : length x ≤ 255 = simp length-take (omega (arith, h .ensures .1)) in
-    let s = info-size (h .result) (now (a .label)) x (c .before .before .before .put-label .ensures .0) (f .0) l in
-    (simp length-take (omega arith), omega (arith, h .ensures .0), omega (arith, h .ensures .0, f .2))
+    (f .0, l, omega (arith, h .ensures .0), omega (arith, h .ensures .0, f .2))
 
 returns-2 : tie.Need-returns-2
 returns-2 c =
-    let a = c .before .before .before .before .before .before .before .before .before .before .before .before .before .before .before .before .before .before .args in
+    let a = c .before .before .before .before .before .before .before .before .before .before .before .before .before .before .args in
     let f = derive-fits (a .suite) (length (now (a .secret))) (length (now (a .label))) (length (now (a .messages)))
-    (length (now (a .out)))
-    (c .before .before .before .before .before .before .before .before .before .before .before .before .before .derive-secret-number .ensures)
-    (c .before .before .before .before .before .before .before .before .before .before .before .before .if1 .left) in
-    let h = c .before .before .before .before .before .before .before .before .before .before .before .hash-len .ensures .0 in
-    let d = uncut (a .suite) (now (a .messages)) (f .1) (c .before .before .before .before .before .before .before .before .before .before .digest .ensures) in
+    (length (now (a .out))) (c .before .before .before .before .before .before .before .before .before .derive-secret-number .ensures) (c .before .before .before .before .before .before .before .before .if1 .left) in
+    let h = c .before .before .before .before .before .before .before .hash-len .ensures .0 in
+    let d = uncut (a .suite) (now (a .messages)) (f .1) (c .before .before .before .before .before .before .digest .ensures) in
     call-done _ _ (now (a .out))
     (derive-small (a .suite) (length (now (a .secret))) (length (now (a .label))) (length (now (a .messages))) (length (now (a .out))))
-    (c .before .before .before .before .before .before .before .before .before .before .before .before .before .derive-secret-number .ensures)
-    (c .before .before .before .before .before .before .before .before .before .before .before .before .if1 .left)
-    (h ∙ sym (length-deriveSecret _ _ _ _))
-    (derive-is (a .suite) _ (now (a .secret)) (now (a .label)) (now (a .messages)) _ (now (a .out)) h d (c .before .before .before .before .before .before .before .put-label .ensures .0) (c .before .before .before .before .before .before .before .put-label .ensures .1) (c .before .before .before .fill .ensures))
+    (c .before .before .before .before .before .before .before .before .before .derive-secret-number .ensures) (c .before .before .before .before .before .before .before .before .if1 .left) (h ∙ sym (length-deriveSecret _ _ _ _))
+    (derive-is (a .suite) _ (now (a .secret)) (now (a .label)) (now (a .messages)) (now (a .out)) h d (c .before .before .before .fill-label .ensures))
     (c .decided2 .ensures)
 
 pub derive-secret-spec : {M : Type 1} → statement M
@@ -95,12 +51,8 @@ derive-secret-spec =
     (λ c κs. search needs)
     (λ c κs. search needs)
     (λ c. search needs)
-    slice-aggregate-put-label
-    (λ c. search needs)
-    put-label-requires
-    array-share-prefix-info
-    slice-aggregate-fill
-    fill-requires
+    slice-aggregate-fill-label
+    fill-label-requires
     (λ c κs. search needs)
     (λ c. search needs)
     returns-2)
