@@ -17,7 +17,6 @@ use Rattle.refusal.proofs.Laws.{passed, or-false, and-true, at-most, refused, d
 use Rattle.suite.specs.Suite.{known, hashLen, blockLen, maxLabel}
 use Rattle.sha2.specs.Hash.{hash, maxInput}
 use Rattle.sha2.proofs.Whole.{length-hash}
-use Rattle.hkdf.specs.Rfc5869.{expand}
 use Rattle.hkdf.specs.Rfc8446.{expandLabel, deriveSecret}
 use Rattle.hkdf.specs.Refusals.{macNumber, expandNumber, expandLabelNumber, deriveSecretNumber, askable, labelled, maxMessage, maxInfo, maxContext}
 use Rattle.hkdf.proofs.Values.{length-expand}

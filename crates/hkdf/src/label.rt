@@ -2,6 +2,7 @@
 use super::expand::fill;
 use super::numbers::derive_secret_number;
 use super::numbers::expand_label_number;
+use hmac::prepare;
 use oneshot::digest;
 use refusal::Answer;
 use suite::Suite;
@@ -31,7 +32,20 @@ fn fill_label(suite: u16, secret: &[u8], label: &[u8], context: &[u8], asked: us
         0x20,
     ];
     let size = [(context.len() % 256) as u8];
-    fill(suite, secret, &head, label, &size, context, asked, out);
+    let k = prepare(suite, secret);
+    let inner = k.inner;
+    let outer = k.outer;
+    fill(
+        suite,
+        &inner,
+        &outer,
+        &head,
+        label,
+        &size,
+        context,
+        asked,
+        out,
+    );
 }
 
 // Writes the asked bytes of Expand-Label(secret, label, context, asked) to the front of out. Refusals 2, 4, 10 and 11.
