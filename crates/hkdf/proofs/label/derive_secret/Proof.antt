@@ -1,7 +1,6 @@
-use Prim.Native.Nat.{_≤_}
 use Rattle.hkdf.proofs.Calls.{call-refused, call-done, derive-small, derive-fits, derive-is, uncut, length-deriveSecret}
 use denote.Ref.{now}
-use lib.ListN.{length, length-take, take}
+use lib.ListN.{length, length-take}
 use native.Mathlib.Omega.{arith}
 use mathlib.Core.Path.{sym, _∙_}
 use borrow.Author.Needs.{needs}
@@ -24,9 +23,7 @@ fill-label-requires c κs =
     let f = derive-fits (a .suite) (length (now (a .secret))) (length (now (a .label))) (length (now (a .messages)))
     (length (now (a .out))) (c .before .before .before .before .before .derive-secret-number .ensures) (c .before .before .before .before .if1 .left) in
     let h = c .before .before .before .hash-len in
-    let x = take (h .result) (c .before .before .digest .result) in
-    let l : length x ≤ 255 = simp length-take (omega (arith, h .ensures .1)) in
-    (f .0, l, omega (arith, h .ensures .0), omega (arith, h .ensures .0, f .2))
+    (f .0, simp length-take (omega (arith, h .ensures .1)), omega (arith, h .ensures .0), omega (arith, h .ensures .0, f .2))
 
 returns-2 : tie.Need-returns-2
 returns-2 c =
