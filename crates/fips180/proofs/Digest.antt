@@ -84,6 +84,10 @@ module _ (v : Variant) where
       → set d i ((getD s q 0 / 2 ^ (v .bits - 8 - r * 8)) % 256) ≡ digestBytes s j ++ zeros (48 - j)
   digest-in-word s h eq er ej e = rw ej (digest-next s h e (rw (eq, er) refl))
 
+  pub digest-all : (s : List ℕ) {d : List ℕ} {i : ℕ} → i ≡ v .digest → d ≡ digestBytes s i ++ zeros (48 - i)
+      → digestBytes s (v .digest) ≡ digestOf v s → d ≡ digestOf v s ++ zeros (48 - v .digest)
+  digest-all s e f g = rw (f, e, g)
+
   pub digest-cut : (s : List ℕ) {c r : List ℕ} → c ≡ cut v s → r ≡ digestOf v c ++ zeros (48 - v .digest) → r ≡ digestIn48 v s
   unfolding digestIn48
   digest-cut s e f = f ∙ ap (λ (x : List ℕ). digestOf v x ++ zeros (48 - v .digest)) e
