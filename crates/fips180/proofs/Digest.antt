@@ -8,7 +8,6 @@ use native.Mathlib.Omega.{arith}
 use lib.ListN.{length, getD, set, drop, length-append}
 use lib.Seq.{drop-cons, drop-length, set-at}
 use Rattle.buffer.specs.Buffer.{zeros}
-use Rattle.fips180.specs.Words.{bytesOf}
 use Rattle.fips180.specs.Variant.{Variant}
 use Rattle.fips180.specs.Hash.{digestOf}
 use Rattle.fips180.specs.Rows.{cut, digestIn48}
@@ -27,36 +26,6 @@ eight s l =
     let h = drop-cons s 7 0 (omega arith) in
     let i : drop 8 s ≡ [] = rw l at (drop-length s) in cc
 
--- two words of 32 bits as one of 64, byte by byte
-module _ (a b : ℕ) (h : b < 4294967296) where
-  byte7 : ((a * 4294967296 + b) / 72057594037927936) % 256 ≡ (a / 16777216) % 256
-  byte7 = omega arith
-
-  byte6 : ((a * 4294967296 + b) / 281474976710656) % 256 ≡ (a / 65536) % 256
-  byte6 = omega arith
-
-  byte5 : ((a * 4294967296 + b) / 1099511627776) % 256 ≡ (a / 256) % 256
-  byte5 = omega arith
-
-  byte4 : ((a * 4294967296 + b) / 4294967296) % 256 ≡ (a / 1) % 256
-  byte4 = omega arith
-
-  byte3 : ((a * 4294967296 + b) / 16777216) % 256 ≡ (b / 16777216) % 256
-  byte3 = omega arith
-
-  byte2 : ((a * 4294967296 + b) / 65536) % 256 ≡ (b / 65536) % 256
-  byte2 = omega arith
-
-  byte1 : ((a * 4294967296 + b) / 256) % 256 ≡ (b / 256) % 256
-  byte1 = omega arith
-
-  byte0 : ((a * 4294967296 + b) / 1) % 256 ≡ (b / 1) % 256
-  byte0 = omega arith
-
-  pub bytes-joined : bytesOf 8 (a * 4294967296 + b) ≡ bytesOf 4 a ++ bytesOf 4 b
-  unfolding bytesOf
-  bytes-joined = rw (byte7, byte6, byte5, byte4, byte3, byte2, byte1, byte0) refl
-
 module _ (v : Variant) where
   -- the first n bytes of a digest
   unfoldable pub digestBytes : List ℕ → ℕ → List ℕ
@@ -70,19 +39,13 @@ module _ (v : Variant) where
   length-digest s (suc i) = let h = length-digest s i in simp length-append (omega arith)
 
   -- the byte i of a digest, written over the first of the zeros behind the bytes before it
-  digest-next : (s : List ℕ) {d : List ℕ} {i x : ℕ} → i < 48 → d ≡ digestBytes s i ++ zeros (48 - i)
+  pub digest-next : (s : List ℕ) {d : List ℕ} {i x : ℕ} → i < 48 → d ≡ digestBytes s i ++ zeros (48 - i)
       → x ≡ (getD s (i / v .bytes) 0 / 2 ^ (v .bits - 8 - i % v .bytes * 8)) % 256
       → set d i x ≡ digestBytes s (i + 1) ++ zeros (48 - (i + 1))
   unfolding digestBytes zeros
   digest-next s {d} {i} {x} h e ex =
       let n : 48 - i ≡ suc (48 - (i + 1)) = omega arith in
       rw (e, n, set-at (digestBytes s i) 0 (zeros (48 - (i + 1))) x i (length-digest s i), add-one, append-assoc, ex)
-
-  -- the same where byte i is byte r of the word q, and j comes after it
-  pub digest-in-word : (s : List ℕ) {d : List ℕ} {i j q r : ℕ} → i < 48 → i / v .bytes ≡ q → i % v .bytes ≡ r → j ≡ i + 1
-      → d ≡ digestBytes s i ++ zeros (48 - i)
-      → set d i ((getD s q 0 / 2 ^ (v .bits - 8 - r * 8)) % 256) ≡ digestBytes s j ++ zeros (48 - j)
-  digest-in-word s h eq er ej e = rw ej (digest-next s h e (rw (eq, er) refl))
 
   pub digest-all : (s : List ℕ) {d : List ℕ} {i : ℕ} → i ≡ v .digest → d ≡ digestBytes s i ++ zeros (48 - i)
       → digestBytes s (v .digest) ≡ digestOf v s → d ≡ digestOf v s ++ zeros (48 - v .digest)

@@ -1,8 +1,6 @@
 // Words and bytes, high byte first (FIPS 180-4, section 3.1).
 ghost use mathlib.Core.Path.{_≡_};
-ghost use mathlib.Core.List.{_++_};
 ghost use Prim.Native.Nat.{_+_, _*_};
-ghost use lib.ListN.{getD};
 ghost use Rattle.fips180.specs.Words.{bytesOf};
 
 // Four bytes as a word.
@@ -33,23 +31,4 @@ pub fn split64(x: u64) -> [u8; 8]
         (x / 256 % 256) as u8,
         (x / 1 % 256) as u8,
     ]
-}
-
-// The bytes of six words, in loops that the compiler unrolls.
-pub fn split_words(w: [u64; 6]) -> [u8; 48]
-    ensures { λ r. ⌜ r ≡ bytesOf 8 (getD w 0 0) ++ (bytesOf 8 (getD w 1 0) ++ (bytesOf 8 (getD w 2 0) ++ (bytesOf 8 (getD w 3 0) ++ (bytesOf 8 (getD w 4 0) ++ bytesOf 8 (getD w 5 0))))) ⌝ }
-{
-    let mut d = [0u8; 48];
-    let mut q: usize = 0;
-    while q < 6 {
-        let x = w[q];
-        let mut r: usize = 0;
-        while r < 8 {
-            let n = (56 - r * 8) as u64;
-            d[q * 8 + r] = ((x >> n) % 256) as u8;
-            r += 1;
-        }
-        q += 1;
-    }
-    d
 }

@@ -1,10 +1,13 @@
 // The hash value after whole blocks, and the digest, of SHA-256 (FIPS 180-4, section 6.2).
 use compress256::rounds::compress_words;
 ghost use mathlib.Core.Path.{_≡_};
+ghost use mathlib.Core.List.{_++_};
 ghost use Prim.Native.Nat.{_/_};
 ghost use lib.ListN.{length};
+ghost use Rattle.buffer.specs.Buffer.{zeros};
 ghost use Rattle.fips180.specs.Variant.{sha256};
 ghost use Rattle.fips180.specs.Padding.{wordsOf};
+ghost use Rattle.fips180.specs.Hash.{digestOf};
 ghost use Rattle.fips180.specs.Rows.{cut, folded, digestIn48};
 
 // The sixteen words of a block.
@@ -66,17 +69,23 @@ pub fn fold(s: [u64; 8], p: &[u8]) -> [u64; 8]
     widened(x)
 }
 
+// The digest of eight words, with zeros behind it.
+fn digest_words(s: [u32; 8]) -> [u8; 48]
+    ensures { λ r. ⌜ r ≡ digestOf sha256 s ++ zeros 16 ⌝ }
+{
+    let mut d = [0u8; 48];
+    let mut i: usize = 0;
+    while i < 32 {
+        let n = (24 - i % 4 * 8) as u32;
+        d[i] = ((s[i / 4] >> n) % 256) as u8;
+        i += 1;
+    }
+    d
+}
+
 // The digest of a hash value, in 48 bytes with zeros behind it.
 pub fn digest(s: [u64; 8]) -> [u8; 48]
     ensures { λ r. ⌜ r ≡ digestIn48 sha256 s ⌝ }
 {
-    let x = cut(s);
-    fips180::split_words([
-        fips180::join64(x[0], x[1]),
-        fips180::join64(x[2], x[3]),
-        fips180::join64(x[4], x[5]),
-        fips180::join64(x[6], x[7]),
-        0,
-        0,
-    ])
+    digest_words(cut(s))
 }

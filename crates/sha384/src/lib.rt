@@ -1,10 +1,13 @@
 // The hash value after whole blocks, and the digest, of SHA-384 (FIPS 180-4, section 6.4).
 use compress384::rounds::compress_words;
 ghost use mathlib.Core.Path.{_≡_};
+ghost use mathlib.Core.List.{_++_};
 ghost use Prim.Native.Nat.{_/_};
 ghost use lib.ListN.{length};
+ghost use Rattle.buffer.specs.Buffer.{zeros};
 ghost use Rattle.fips180.specs.Variant.{sha384};
 ghost use Rattle.fips180.specs.Padding.{wordsOf};
+ghost use Rattle.fips180.specs.Hash.{digestOf};
 ghost use Rattle.fips180.specs.Rows.{folded, digestIn48};
 
 // The sixteen words of a block.
@@ -42,9 +45,23 @@ pub fn fold(s: [u64; 8], p: &[u8]) -> [u64; 8]
     x
 }
 
+// The digest of eight words, with zeros behind it.
+fn digest_words(s: [u64; 8]) -> [u8; 48]
+    ensures { λ r. ⌜ r ≡ digestOf sha384 s ++ zeros 0 ⌝ }
+{
+    let mut d = [0u8; 48];
+    let mut i: usize = 0;
+    while i < 48 {
+        let n = (56 - i % 8 * 8) as u64;
+        d[i] = ((s[i / 8] >> n) % 256) as u8;
+        i += 1;
+    }
+    d
+}
+
 // The digest of a hash value, in 48 bytes with zeros behind it.
 pub fn digest(s: [u64; 8]) -> [u8; 48]
     ensures { λ r. ⌜ r ≡ digestIn48 sha384 s ⌝ }
 {
-    fips180::split_words([s[0], s[1], s[2], s[3], s[4], s[5]])
+    digest_words(s)
 }

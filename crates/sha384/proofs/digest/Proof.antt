@@ -5,23 +5,17 @@ use lib.ListN.{getD}
 use mir.Syntax.{w64}
 use mir.Val.{Fits}
 use borrow.Author.Needs.{needs}
-use Rattle.buffer.specs.Buffer.{zeros}
-use Rattle.fips180.specs.Words.{bytesOf}
 use Rattle.fips180.specs.Variant.{sha384}
-use Rattle.fips180.specs.Hash.{digestOf}
 use Rattle.fips180.proofs.Digest.{cut-whole, digest-cut}
 use Rattle.sha384.proofs.digest.Statement.{statement}
 use Rattle.sha384.proofs.digest.Tie as tie
 
 returns : tie.Need-returns
-unfolding sha384 digestOf bytesOf zeros
+unfolding sha384
 returns c =
-    let s = c .before .args .t1 in
+    let s = c .before .args .s in
     let f : (i : ℕ) → Fits w64 (getD s i 0) = λ i. search needs in
-    digest-cut sha384 _ (cut-whole sha384 s (omega arith) (λ i. f i .fits)) (c .split-words .ensures)
+    digest-cut sha384 _ (cut-whole sha384 s (omega arith) (λ i. f i .fits)) (c .digest-words .ensures)
 
 pub digest-spec : {M : Type 1} → statement M
-digest-spec =
-    tie.close
-    (tie.spec (λ c. search needs) (λ c. search needs) (λ c. search needs) (λ c. search needs) (λ c. search needs)
-    (λ c. search needs) (λ c κs. tt) returns)
+digest-spec = tie.close (tie.spec (λ c κs. tt) returns)
