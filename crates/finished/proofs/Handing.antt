@@ -11,8 +11,7 @@ use Rattle.schedule.specs.Schedule.{verifyData}
 use Rattle.session.specs.declared.record.Session.{Session}
 use Rattle.outputs.specs.Places.{basePlace, finishedFrom}
 
-pub value-is : (s : Session) (side : ℕ) {base r : List ℕ} → base ≡ basePlace s side
-    → r ≡ placed (verifyData (s .suite) (take (hashLen (s .suite)) base) (take (hashLen (s .suite)) (finished (variantOf (s .suite)) (s .transcript))))
-    → r ≡ placed (finishedFrom s side)
+pub value-is : (s : Session) (side : ℕ) {base hash r : List ℕ} → base ≡ basePlace s side → hash ≡ finished (variantOf (s .suite)) (s .transcript)
+    → r ≡ placed (verifyData (s .suite) (take (hashLen (s .suite)) base) (take (hashLen (s .suite)) hash)) → r ≡ placed (finishedFrom s side)
 unfolding finishedFrom
-value-is s side eb er = er ∙ rw eb
+value-is s side eb eh er = er ∙ rw (eb, eh)

@@ -1,11 +1,12 @@
 // Check: whether received bytes are the Finished value of a side.
 use super::numbers::check_number;
 use super::values::base_place;
-use super::values::finished_value;
 use refusal::Answer;
 use refusal::verdict::Verdict;
 use session::record::Session;
+use sha2::running::finish;
 use suite::Suite;
+use traffic::verify_data;
 ghost use mathlib.Core.Path.{_≡_};
 ghost use mathlib.Core.Bool.{false};
 ghost use Prim.Native.Nat.{min};
@@ -50,10 +51,12 @@ pub fn check(s: Session, side: u8, received: &[u8]) -> Verdict
     if number != 0 {
         return refused(number);
     }
-    let h = Suite::hash_len(s.suite);
+    let suite = s.suite;
+    let h = Suite::hash_len(suite);
     let base = base_place(s, side);
     let running = s.transcript;
-    let value = finished_value(s.suite, base, running);
+    let hash = finish(suite, running);
+    let value = verify_data(suite, base, hash);
     if is_same(received, &value[..h]) {
         return Verdict::Yes;
     }

@@ -1,10 +1,11 @@
 // Finished: the Finished value of a side.
 use super::numbers::finished_number;
 use super::values::base_place;
-use super::values::finished_value;
 use super::values::write_value;
 use refusal::Answer;
 use session::record::Session;
+use sha2::running::finish;
+use traffic::verify_data;
 ghost use Rattle.book.specs.Call.{Call};
 ghost use Rattle.session.specs.Promise.{Done, wrote};
 
@@ -19,7 +20,8 @@ pub fn finished(s: Session, side: u8, out: &mut [u8]) -> Answer
     let suite = s.suite;
     let base = base_place(s, side);
     let running = s.transcript;
-    let value = finished_value(s.suite, base, running);
+    let hash = finish(suite, running);
+    let value = verify_data(suite, base, hash);
     let count = write_value(suite, value, out);
     Answer::decided(0, count)
 }

@@ -1,16 +1,10 @@
 // What the calls share: a value worked out, and written.
 use session::record::Session;
-use sha2::running::Running;
-use sha2::running::finish;
 use suite::Suite;
-use traffic::verify_data;
 ghost use mathlib.Core.Path.{_≡_};
 ghost use lib.ListN.{take};
-ghost use Rattle.buffer.specs.Buffer.{after, behind, placed};
+ghost use Rattle.buffer.specs.Buffer.{after, behind};
 ghost use Rattle.suite.specs.Suite.{hashLen};
-ghost use Rattle.sha2.specs.Variants.{variantOf};
-ghost use Rattle.sha2.specs.Running.{finished};
-ghost use Rattle.schedule.specs.Schedule.{verifyData};
 ghost use Rattle.outputs.specs.Places.{basePlace};
 
 // The base secret of a side.
@@ -23,14 +17,6 @@ pub(crate) fn base_place(s: Session, side: u8) -> [u8; 48]
         r = client;
     }
     r
-}
-
-// The Finished value under a base secret, over a running hash, with zeros behind it.
-pub(crate) fn finished_value(suite: u16, base: [u8; 48], running: Running) -> [u8; 48]
-    ensures { λ r. ⌜ r ≡ placed (verifyData suite (take (hashLen suite) base) (take (hashLen suite) (finished (variantOf suite) running))) ⌝ }
-{
-    let hash = finish(suite, running);
-    verify_data(suite, base, hash)
 }
 
 // Writes the H bytes of a value to the front of out, and answers the index behind them.

@@ -19,15 +19,19 @@ slice-aggregate-is-same c = simp length-take (omega arith)
 
 returns-2 : tie.Need-returns-2
 returns-2 c =
-    let a = c .before .before .before .before .before .before .before .before .before .before .args in
-    checked (a .s) (a .side) (now (a .received)) (c .before .before .before .before .before .before .before .before .check-number .ensures) true (c .before .before .before .before .before .before .before .if1 .left) (c .before .before .before .before .before .before .hash-len .ensures .0)
-    (value-is (a .s) (a .side) (c .before .before .before .before .before .base-place .ensures) (c .before .before .before .finished-value .ensures)) (c .before .is-same .ensures) (c .if2 .taken)
+    let v = c .before .before .before in
+    let b = v .before .before .before in
+    let a = b .before .before .before .before .before .args in
+    checked (a .s) (a .side) (now (a .received)) (b .before .before .before .check-number .ensures) true (b .before .before .if1 .left) (b .before .hash-len .ensures .0)
+    (value-is (a .s) (a .side) (b .base-place .ensures) (v .before .finish .ensures) (v .verify-data .ensures)) (c .before .is-same .ensures) (c .if2 .taken)
 
 returns-3 : tie.Need-returns-3
 returns-3 c =
-    let a = c .before .before .before .before .before .before .before .before .before .before .args in
-    checked (a .s) (a .side) (now (a .received)) (c .before .before .before .before .before .before .before .before .check-number .ensures) false (c .before .before .before .before .before .before .before .if1 .left) (c .before .before .before .before .before .before .hash-len .ensures .0)
-    (value-is (a .s) (a .side) (c .before .before .before .before .before .base-place .ensures) (c .before .before .before .finished-value .ensures)) (c .before .is-same .ensures) (c .if2 .left)
+    let v = c .before .before .before in
+    let b = v .before .before .before in
+    let a = b .before .before .before .before .before .args in
+    checked (a .s) (a .side) (now (a .received)) (b .before .before .before .check-number .ensures) false (b .before .before .if1 .left) (b .before .hash-len .ensures .0)
+    (value-is (a .s) (a .side) (b .base-place .ensures) (v .before .finish .ensures) (v .verify-data .ensures)) (c .before .is-same .ensures) (c .if2 .left)
 
 pub check-spec : {M : Type 1} → statement M
 check-spec =
@@ -36,6 +40,7 @@ check-spec =
     (λ c κs. search needs)
     (λ c κs. search needs)
     returns
+    (λ c κs. search needs)
     (λ c κs. search needs)
     (λ c κs. search needs)
     (λ c κs. search needs)

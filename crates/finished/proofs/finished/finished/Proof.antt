@@ -13,9 +13,11 @@ returns c =
 
 returns-2 : tie.Need-returns-2
 returns-2 c =
-    let a = c .before .before .before .before .before .before .before .before .before .before .before .args in
-    finished-done (a .s) (a .side) (now (a .out)) (c .before .before .before .before .before .before .before .before .before .finished-number .ensures) (c .decided2 .result) (c .before .before .before .before .before .before .before .before .if1 .left)
-    (value-is (a .s) (a .side) (c .before .before .before .before .before .before .before .base-place .ensures) (c .before .before .before .before .before .finished-value .ensures)) (c .before .before .before .write-value .ensures)
+    let v = c .before .before .before .before .before in
+    let b = v .before .before .before in
+    let a = c .before .before .before .before .before .before .before .before .before .before .before .before .args in
+    finished-done (a .s) (a .side) (now (a .out)) (b .before .before .finished-number .ensures) (c .decided2 .result) (b .before .if1 .left)
+    (value-is (a .s) (a .side) (b .base-place .ensures) (v .before .finish .ensures) (v .verify-data .ensures)) (c .before .before .before .write-value .ensures)
     (c .decided2 .ensures)
 
 pub finished-spec : {M : Type 1} → statement M
@@ -25,6 +27,7 @@ finished-spec =
     (λ c κs. search needs)
     (λ c κs. search needs)
     returns
+    (λ c κs. search needs)
     (λ c κs. search needs)
     (λ c κs. search needs)
     (λ c κs. search needs)
