@@ -2,3 +2,4 @@ pub mod Numbers
 pub mod Over
 pub mod Encoding
 pub mod Inverse
+pub mod Called

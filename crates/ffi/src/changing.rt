@@ -6,38 +6,17 @@ use application_stage::update::update;
 use encoding::codec::SESSION_BYTES;
 use encoding::codec::decode;
 use encoding::codec::encode;
+use encoding::store::NOT_A_SESSION;
+use encoding::store::store;
 use handshake_stage::early::early;
 use handshake_stage::handshake::handshake;
 use session::begin::begin;
 use session::close::close;
 use session::feed::feed;
-use session::record::Outcome;
 use session::record::fresh;
-ghost use mathlib.Core.Path.{_≡_};
-ghost use mathlib.Core.Bool.{cond};
 ghost use mathlib.Core.List.{[]};
-ghost use lib.ListN.{length};
-ghost use lib.Dec.{eqb};
-ghost use Rattle.refusal.specs.Refusal.{number};
 ghost use Rattle.book.specs.Call.{Call};
-ghost use Rattle.encoding.specs.Encoding.{sessionBytes, encoded};
-ghost use Rattle.ffi.specs.Called.{Called, MadeFresh, numbered};
-
-pub const NOT_A_SESSION: u8 = 255;
-
-// Writes the session of an accepted call to its buffer, and answers the call's number.
-fn store(o: Outcome, session: &mut [u8]) -> u8
-    ensures { λ r. ⌜ (r ≡ number (o .answer)) × (now (session .exit) ≡ cond (eqb r 0) (cond (eqb (length (now (session .entry))) sessionBytes) (encoded (o .session)) (now (session .entry))) (now (session .entry))) ⌝ }
-{
-    let answer = o.answer;
-    let n = answer.number();
-    if n != 0 {
-        return n;
-    }
-    let after = o.session;
-    encode(after, session);
-    n
-}
+ghost use Rattle.encoding.specs.Called.{Called, MadeFresh, numbered};
 
 // A fresh session.
 #[no_mangle]

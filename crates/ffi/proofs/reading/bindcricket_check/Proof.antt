@@ -6,7 +6,8 @@ use native.Mathlib.Omega.{arith}
 use denote.Ref.{now}
 use mathlib.Core.List.{[]}
 use Rattle.book.specs.Call.Call.{Check}
-use Rattle.ffi.proofs.Calls.{wrong-size, saying}
+use Rattle.encoding.proofs.Calls.{wrong-size}
+use Rattle.ffi.proofs.Calls.{saying}
 use borrow.Author.Needs.{needs}
 use Rattle.ffi.proofs.reading.bindcricket_check.Statement.{statement}
 use Rattle.ffi.proofs.reading.bindcricket_check.Tie as tie

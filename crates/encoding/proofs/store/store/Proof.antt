@@ -1,30 +1,30 @@
 use mathlib.Core.Path.{_≡_, refl, sym, ap, _∙_}
 use borrow.Author.Tests.{eq-eqb, ne-eqb}
 use borrow.Author.Needs.{needs}
-use Rattle.ffi.proofs.changing.store.Statement.{statement}
-use Rattle.ffi.proofs.changing.store.Tie as tie
-use Rattle.ffi.proofs.changing.store.Reads as reads
-use Rattle.ffi.proofs.changing.store.Lts as lts
+use Rattle.encoding.proofs.store.store.Statement.{statement}
+use Rattle.encoding.proofs.store.store.Tie as tie
+use Rattle.encoding.proofs.store.store.Reads as reads
+use Rattle.encoding.proofs.store.store.Lts as lts
 use Rattle.encoding.proofs.codec.encode.Reads as encode-reads
 use Rattle.refusal.proofs.Answer.number.Reads as number-reads
 
--- src/changing.rt:33:9
+-- src/store.rt:33:9
 number-requires : tie.Need-number-requires
 number-requires c κs = search needs
 
--- src/changing.rt:35:9
+-- src/store.rt:35:9
 returns : tie.Need-returns
 returns c = (c .before .number .ensures, rw (ne-eqb _ _ (c .if1 .taken)) refl)
 
--- src/changing.rt:38:5
+-- src/store.rt:38:5
 encode-requires : tie.Need-encode-requires
 encode-requires c κs = search needs
 
--- src/changing.rt:29:1
+-- src/store.rt:29:1
 same-length : tie.Need-same-length
 same-length c = search needs
 
--- src/changing.rt:29:1
+-- src/store.rt:29:1
 returns-2 : tie.Need-returns-2
 returns-2 c = (c .before .before .before .before .before .before .number .ensures, rw (eq-eqb _ _ (c .before .before .before .before .before .if1 .left)) (c .before .before .encode .ensures))
 
