@@ -1,19 +1,23 @@
 -- What a call on a session promises, said of the session's bytes. Once for every call.
-use Prim.Native.Nat.{ℕ, _≤_}
+use Prim.Native.Nat.{ℕ, _≤_, zero-le}
 use mathlib.Core.Bool.{Bool, true, false, cond}
 use mathlib.Core.Path.{_≡_, refl, sym, ap, _∙_, subst}
 use mathlib.Core.List.{List, []}
 use native.Mathlib.Omega.{arith}
-use lib.ListN.{length}
+use lib.ListN.{length, drop}
 use lib.Dec.{eqb}
 use borrow.Author.Tests.{eq-eqb, ne-eqb, eqb-false}
+use Rattle.buffer.specs.Buffer.{fronted}
 use Rattle.refusal.specs.Refusal as Refusal
 use Rattle.book.specs.Call.{Call, lent}
-use Rattle.book.specs.Book.{blankAt, fresh}
+use Rattle.book.specs.Book.{Book, blankAt, fresh, note}
+use Rattle.book.specs.Refusals.{number, Reached}
 use Rattle.session.specs.declared.record.Session.{Session}
 use Rattle.session.specs.declared.record.Outcome.{Outcome}
 use Rattle.session.specs.Session.{sessionOf}
+use Rattle.session.specs.Values.{written, verdict}
 use Rattle.session.specs.Promise.{Reply, Done, plain}
+use Rattle.session.proofs.Calls.{refused, accepted}
 use Rattle.encoding.specs.Encoding.{sessionBytes, encoded, decoded}
 use Rattle.encoding.specs.Inverse.{Bytes}
 use Rattle.encoding.specs.Called.{Called, notASession, numbered, counted}
@@ -56,3 +60,25 @@ module _ (before : List ℕ) (c : Call) {s : Session} (n : length before ≡ ses
       whole false h =
           let u = d .unchanged (λ z. eqb-false r 0 h (er ∙ z)) .0 in
           kept (eqb-false r 0 h) ∙ sym (encodes-what-it-decodes before n y) ∙ ap encoded (sym taken ∙ sym u)
+
+  -- a call that lends no output, by the number that its code decided: refused, or accepted with the session t kept
+  pub not-kept : {r : ℕ} → lent c ≡ [] → ((b : Book) → Reached b → s ≡ sessionOf b → r ≡ number b c) → (r ≡ 0 → ⊥)
+      → Called before c [] before (numbered r)
+  not-kept {r} none is some =
+      reading [] (numbered r)
+      (subst (λ (l : List ℕ). Done s c s (record { number = r; count = 0; verdict = false; output = l })) none (refused s c r 0 is some refl))
+
+  pub kept : {t : Session} {after : List ℕ} {r : ℕ} → lent c ≡ [] → ((b : Book) → written b c ≡ []) → ((b : Book) → verdict b c ≡ false)
+      → ((b : Book) → Reached b → s ≡ sessionOf b → r ≡ number b c) → r ≡ 0
+      → ((b : Book) → Reached b → s ≡ sessionOf b → number b c ≡ 0 → t ≡ sessionOf (note b c))
+      → after ≡ cond (eqb (length before) sessionBytes) (encoded t) before → Called before c [] after (numbered 0)
+  unfolding fronted
+  kept {t} none wrote says is z to ea =
+      let d = accepted s c t [] 0 0 false [] (λ b r p. sym (is b r p) ∙ z) to (λ b r p y. (sym (wrote b), sym (says b))) refl refl
+      (ap (λ (l : List ℕ). drop 0 l) (sym none)) zero-le
+      in
+      record {
+        another-size = λ h. absurd (h n);
+        called = λ _. (t, subst (λ (x : Session). Done x c t (numbered 0)) taken d, rw (eq-eqb _ _ n) at ea);
+        refused = λ h. absurd (h refl);
+      }

@@ -1,33 +1,75 @@
 // Early: the secrets for early data.
 use super::numbers::early_number;
+use encoding::codec::SESSION_BYTES;
+use encoding::codec::decode;
+use encoding::codec::encode;
+use encoding::store::NOT_A_SESSION;
 use refusal::Answer;
+use schedule::secrets::EarlySecrets;
 use schedule::secrets::early_secrets;
 use session::record::Outcome;
 use session::record::Session;
 use sha2::running::finish;
 ghost use mathlib.Core.Path.{_≡_};
+ghost use mathlib.Core.List.{[]};
 ghost use Rattle.book.specs.Call.{Call};
 ghost use Rattle.session.specs.Promise.{Done, plain};
+ghost use Rattle.encoding.specs.Called.{Called, numbered};
+ghost use Rattle.handshake_stage.specs.Kept.{EarlyKept};
+
+// The session with the secrets in their places.
+fn early_kept(mut s: Session, made: EarlySecrets) -> Session
+    ensures { λ r. ⌜ EarlyKept s (made .client) (made .exporter) r ⌝ }
+{
+    let client = made.client;
+    let exporter = made.exporter;
+    s.early = 1;
+    s.client_early = client;
+    s.early_exporter = exporter;
+    s
+}
 
 // At Early, between ClientHello and ServerHello, once. Refusals 1 and 3.
-pub fn early(mut s: Session) -> Outcome
+pub fn early(s: Session) -> Outcome
     ensures { λ r. ⌜ Done s Call.Early (r .session) (plain (r .answer)) ⌝ }
 {
     let number = early_number(s.point, s.stage, s.early, s.kind);
-    if number == 0 {
-        let suite = s.suite;
-        let running = s.transcript;
-        let chain = s.chain;
-        let hash = finish(suite, running);
-        let made = early_secrets(suite, chain, hash);
-        let client = made.client;
-        let exporter = made.exporter;
-        s.early = 1;
-        s.client_early = client;
-        s.early_exporter = exporter;
+    if number != 0 {
+        return Outcome {
+            session: s,
+            answer: Answer::decided(number, 0),
+        };
     }
+    let suite = s.suite;
+    let running = s.transcript;
+    let chain = s.chain;
+    let hash = finish(suite, running);
+    let made = early_secrets(suite, chain, hash);
+    let next = early_kept(s, made);
     Outcome {
-        session: s,
-        answer: Answer::decided(number, 0),
+        session: next,
+        answer: Answer::decided(0, 0),
     }
+}
+
+// The same on the bytes of a session, as handshake_lent.
+pub fn early_lent(session: &mut [u8]) -> u8
+    ensures { λ r. ⌜ Called (now (session .entry)) Call.Early [] (now (session .exit)) (numbered r) ⌝ }
+{
+    if session.len() != SESSION_BYTES {
+        return NOT_A_SESSION;
+    }
+    let before = decode(session);
+    let number = early_number(before.point, before.stage, before.early, before.kind);
+    if number != 0 {
+        return number;
+    }
+    let suite = before.suite;
+    let running = before.transcript;
+    let chain = before.chain;
+    let hash = finish(suite, running);
+    let made = early_secrets(suite, chain, hash);
+    let after = early_kept(decode(session), made);
+    encode(after, session);
+    0
 }

@@ -1,15 +1,38 @@
 // Handshake: the shared secret.
 use super::numbers::handshake_number;
 use book::points::HANDSHAKE;
+use encoding::codec::SESSION_BYTES;
+use encoding::codec::decode;
+use encoding::codec::encode;
+use encoding::store::NOT_A_SESSION;
 use refusal::Answer;
+use schedule::secrets::HandshakeSecrets;
 use schedule::secrets::handshake_secret;
 use schedule::secrets::handshake_secrets;
 use session::record::Outcome;
 use session::record::Session;
 use sha2::running::finish;
 ghost use mathlib.Core.Path.{_≡_};
+ghost use mathlib.Core.List.{[]};
 ghost use Rattle.book.specs.Call.{Call};
 ghost use Rattle.session.specs.Promise.{Done, plain};
+ghost use Rattle.encoding.specs.Called.{Called, numbered};
+ghost use Rattle.handshake_stage.specs.Kept.{HandshakeKept};
+
+// The session with the secrets in their places.
+fn handshake_kept(mut s: Session, chain: [u8; 48], made: HandshakeSecrets) -> Session
+    ensures { λ r. ⌜ HandshakeKept s chain (made .client) (made .server) r ⌝ }
+{
+    let client = made.client;
+    let server = made.server;
+    let none = buffer::zeros48();
+    s.point = HANDSHAKE;
+    s.chain = chain;
+    s.binder_key = none;
+    s.client_handshake = client;
+    s.server_handshake = server;
+    s
+}
 
 // At Early, after the ServerHello; goes to Handshake. Refusals 1, 2, 4, 5 and 6.
 pub fn handshake(s: Session, group: u16, secret: &[u8]) -> Outcome
@@ -28,17 +51,33 @@ pub fn handshake(s: Session, group: u16, secret: &[u8]) -> Outcome
     let hash = finish(suite, running);
     let chain = handshake_secret(suite, early, secret);
     let made = handshake_secrets(suite, chain, hash);
-    let client = made.client;
-    let server = made.server;
-    let none = buffer::zeros48();
-    let mut next = s;
-    next.point = HANDSHAKE;
-    next.chain = chain;
-    next.binder_key = none;
-    next.client_handshake = client;
-    next.server_handshake = server;
+    let next = handshake_kept(s, chain, made);
     Outcome {
         session: next,
         answer: Answer::decided(0, 0),
     }
+}
+
+// The same on the bytes of a session, which is decoded again when the secrets are made: no session lies on the stack while
+// they are.
+pub fn handshake_lent(session: &mut [u8], group: u16, secret: &[u8]) -> u8
+    ensures { λ r. ⌜ Called (now (session .entry)) (Call.Handshake group (now (secret .entry))) [] (now (session .exit)) (numbered r) ⌝ }
+{
+    if session.len() != SESSION_BYTES {
+        return NOT_A_SESSION;
+    }
+    let before = decode(session);
+    let number = handshake_number(before.point, before.stage, before.kind, group, secret);
+    if number != 0 {
+        return number;
+    }
+    let suite = before.suite;
+    let running = before.transcript;
+    let early = before.chain;
+    let hash = finish(suite, running);
+    let chain = handshake_secret(suite, early, secret);
+    let made = handshake_secrets(suite, chain, hash);
+    let after = handshake_kept(decode(session), chain, made);
+    encode(after, session);
+    0
 }

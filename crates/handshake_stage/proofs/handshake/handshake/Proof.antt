@@ -6,10 +6,8 @@ use Rattle.book.specs.Call.Call.{Handshake}
 use Rattle.book.specs.Call.{lent}
 use Rattle.session.specs.Values.{written, verdict}
 use Rattle.book.proofs.Accepted.{handshake-small}
-use Rattle.book.proofs.Books.{good}
 use Rattle.session.proofs.Calls.{refused-by, accepted-plain}
-use Rattle.session.proofs.Decisions.{handshake-is, handshake-taken}
-use Rattle.session.proofs.Steps.{shaken}
+use Rattle.session.proofs.Decisions.{handshake-is}
 use Rattle.handshake_stage.proofs.handshake.handshake.Statement.{statement}
 use Rattle.handshake_stage.proofs.handshake.handshake.Tie as tie
 
@@ -23,17 +21,14 @@ returns c = let a = c .before .before .before .before .args in
 
 returns-2 : tie.Need-returns-2
 unfolding lent written verdict
-returns-2 c = let a = c .before .before .before .before .before .before .before .before .before .before .before .before .args in
-    let n = c .before .before .before .before .before .before .before .before .before .before .handshake-number .ensures in
-    let z = c .before .before .before .before .before .before .before .before .before .if1 .left in
+returns-2 c = let a = c .before .before .before .before .before .before .before .before .before .before .args in
+    let n = c .before .before .before .before .before .before .before .before .handshake-number .ensures in
+    let z = c .before .before .before .before .before .before .before .if1 .left in
     accepted-plain (a .s) (Handshake (a .group) (now (a .secret))) _ (c .decided2 .result) refl (λ b. refl) (λ b. refl)
     (λ b r e. sym (handshake-is (a .s) (a .group) (now (a .secret)) n b r e) ∙ z)
-    (λ b r e y. let t = handshake-taken b (a .group) (now (a .secret)) y in
-    shaken b (a .group) (now (a .secret)) (a .s) (good r) (t .at) (t .small) e
-    (c .before .before .before .before .before .before .finish .ensures)
-    (c .before .before .before .before .before .handshake-secret .ensures)
-    (c .before .before .before .before .handshake-secrets .ensures .0)
-    (c .before .before .before .before .handshake-secrets .ensures .1) (c .before .zeros48 .ensures)) (c .decided2 .ensures)
+    (λ b r e y. c .before .handshake-kept .ensures b (a .group) (now (a .secret)) _ r e y (c .before .before .before .before .finish .ensures)
+    (c .before .before .before .handshake-secret .ensures) (c .before .before .handshake-secrets .ensures .0)
+    (c .before .before .handshake-secrets .ensures .1)) (c .decided2 .ensures)
 
 pub handshake-spec : {M : Type 1} → statement M
 handshake-spec =
