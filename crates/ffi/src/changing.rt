@@ -1,15 +1,15 @@
 // The calls that may change a session. Each answers its number: 0, a refusal, or 255 for a buffer that does not have a session's
 // size; only where it is 0 is the buffer written.
-use application_stage::application::application;
+use application_stage::application::application_lent;
 use application_stage::complete::complete;
-use application_stage::update::update;
+use application_stage::update::update_lent;
 use encoding::codec::SESSION_BYTES;
 use encoding::codec::decode;
 use encoding::codec::encode;
 use encoding::store::NOT_A_SESSION;
 use encoding::store::store;
-use handshake_stage::early::early;
-use handshake_stage::handshake::handshake;
+use handshake_stage::early::early_lent;
+use handshake_stage::handshake::handshake_lent;
 use session::begin::begin;
 use session::close::close;
 use session::feed::feed;
@@ -56,33 +56,21 @@ pub extern "C" fn bindcricket_feed(session: &mut [u8], message: &[u8]) -> u8
 pub extern "C" fn bindcricket_early(session: &mut [u8]) -> u8
     ensures { λ r. ⌜ Called (now (session .entry)) Call.Early [] (now (session .exit)) (numbered r) ⌝ }
 {
-    if session.len() != SESSION_BYTES {
-        return NOT_A_SESSION;
-    }
-    let done = early(decode(session));
-    store(done, session)
+    early_lent(session)
 }
 
 #[no_mangle]
 pub extern "C" fn bindcricket_handshake(session: &mut [u8], group: u16, secret: &[u8]) -> u8
     ensures { λ r. ⌜ Called (now (session .entry)) (Call.Handshake group (now (secret .entry))) [] (now (session .exit)) (numbered r) ⌝ }
 {
-    if session.len() != SESSION_BYTES {
-        return NOT_A_SESSION;
-    }
-    let done = handshake(decode(session), group, secret);
-    store(done, session)
+    handshake_lent(session, group, secret)
 }
 
 #[no_mangle]
 pub extern "C" fn bindcricket_application(session: &mut [u8]) -> u8
     ensures { λ r. ⌜ Called (now (session .entry)) Call.Application [] (now (session .exit)) (numbered r) ⌝ }
 {
-    if session.len() != SESSION_BYTES {
-        return NOT_A_SESSION;
-    }
-    let done = application(decode(session));
-    store(done, session)
+    application_lent(session)
 }
 
 #[no_mangle]
@@ -100,11 +88,7 @@ pub extern "C" fn bindcricket_complete(session: &mut [u8]) -> u8
 pub extern "C" fn bindcricket_update(session: &mut [u8], side: u8) -> u8
     ensures { λ r. ⌜ Called (now (session .entry)) (Call.Update side) [] (now (session .exit)) (numbered r) ⌝ }
 {
-    if session.len() != SESSION_BYTES {
-        return NOT_A_SESSION;
-    }
-    let done = update(decode(session), side);
-    store(done, session)
+    update_lent(session, side)
 }
 
 #[no_mangle]
