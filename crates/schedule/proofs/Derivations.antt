@@ -58,10 +58,14 @@ small = every Small (omega arith) (omega arith) (omega arith) (omega arith) (ome
 module _ (suite : ℕ) where
   -- ---- what is shared
 
-  pub derive-of : (k : Keyed) (name t : List ℕ) {h : ℕ} {r : List ℕ} → h ≡ hashLen suite → r ≡ labelBlock suite k name
-      (take h t) h
+  pub derive-of : (k : Keyed) (name t : List ℕ) {h : ℕ} {r : List ℕ} → h ≡ hashLen suite → r ≡ labelBlock suite k name t h
+      → r ≡ labelBlock suite k name t (hashLen suite)
+  derive-of k name t eh er = er ∙ ap (labelBlock suite k name t) eh
+
+  pub over-hash : (k : Keyed) (name t : List ℕ) {h : ℕ} {r : List ℕ} → h ≡ hashLen suite → r ≡ labelBlock suite k name (take h t)
+      (hashLen suite)
       → r ≡ labelBlock suite k name (take (hashLen suite) t) (hashLen suite)
-  derive-of k name t eh er = er ∙ ap (λ (n : ℕ). labelBlock suite k name (take n t) n) eh
+  over-hash k name t eh er = er ∙ ap (λ (n : ℕ). labelBlock suite k name (take n t) (hashLen suite)) eh
 
   pub nothing-of : (secret name : List ℕ) {k : Keyed} {d r : List ℕ} → k ≡ keyedOf suite secret → d ≡ placed (hash suite [])
       → r ≡ labelBlock suite k name (take (hashLen suite) d) (hashLen suite)

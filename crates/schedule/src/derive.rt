@@ -12,19 +12,20 @@ ghost use Rattle.sha2.specs.Hash.{hash};
 ghost use Rattle.hmac.specs.Keyed.{keyedOf};
 ghost use Rattle.keyed.specs.Blocks.{labelBlock};
 
-// H bytes under a label, over the hash of the messages.
-pub(crate) fn derive(suite: u16, k: Keyed, label: &[u8], transcript: [u8; 48]) -> [u8; 48]
-    ensures { λ r. ⌜ r ≡ labelBlock suite k (now (label .entry)) (take (hashLen suite) transcript) (hashLen suite) ⌝ }
+// H bytes under a label, over the hash of the messages. It is lent, so that no copy of it lies on the stack.
+pub(crate) fn derive(suite: u16, k: Keyed, label: &[u8], transcript: &[u8]) -> [u8; 48]
+    ensures { λ r. ⌜ r ≡ labelBlock suite k (now (label .entry)) (now (transcript .entry)) (hashLen suite) ⌝ }
 {
     let h = Suite::hash_len(suite);
-    label_block(suite, k, label, &transcript[..h], h)
+    label_block(suite, k, label, transcript, h)
 }
 
 // H bytes under a label, over the hash of nothing.
 pub(crate) fn over_nothing(suite: u16, secret: [u8; 48], label: &[u8]) -> [u8; 48]
     ensures { λ r. ⌜ r ≡ labelBlock suite (keyedOf suite (take (hashLen suite) secret)) (now (label .entry)) (hash suite []) (hashLen suite) ⌝ }
 {
+    let h = Suite::hash_len(suite);
     let k = ready(suite, secret);
     let nothing = empty_digest(suite);
-    derive(suite, k, label, nothing)
+    derive(suite, k, label, &nothing[..h])
 }

@@ -90,9 +90,10 @@ pub fn binder_key(suite: u16, kind: u8, early: [u8; 48]) -> [u8; 48]
 pub fn early_secrets(suite: u16, early: [u8; 48], transcript: [u8; 48]) -> EarlySecrets
     ensures { λ r. ⌜ (r .client ≡ placed (fromHash suite Secret.client-early (take (hashLen suite) early) (take (hashLen suite) transcript))) × (r .exporter ≡ placed (fromHash suite Secret.early-exporter (take (hashLen suite) early) (take (hashLen suite) transcript))) ⌝ }
 {
+    let h = Suite::hash_len(suite);
     let k = ready(suite, early);
-    let client = derive(suite, k, b"c e traffic", transcript);
-    let exporter = derive(suite, k, b"e exp master", transcript);
+    let client = derive(suite, k, b"c e traffic", &transcript[..h]);
+    let exporter = derive(suite, k, b"e exp master", &transcript[..h]);
     EarlySecrets {
         client: client,
         exporter: exporter,
@@ -102,9 +103,10 @@ pub fn early_secrets(suite: u16, early: [u8; 48], transcript: [u8; 48]) -> Early
 pub fn handshake_secrets(suite: u16, handshake: [u8; 48], transcript: [u8; 48]) -> HandshakeSecrets
     ensures { λ r. ⌜ (r .client ≡ placed (fromHash suite Secret.client-handshake (take (hashLen suite) handshake) (take (hashLen suite) transcript))) × (r .server ≡ placed (fromHash suite Secret.server-handshake (take (hashLen suite) handshake) (take (hashLen suite) transcript))) ⌝ }
 {
+    let h = Suite::hash_len(suite);
     let k = ready(suite, handshake);
-    let client = derive(suite, k, b"c hs traffic", transcript);
-    let server = derive(suite, k, b"s hs traffic", transcript);
+    let client = derive(suite, k, b"c hs traffic", &transcript[..h]);
+    let server = derive(suite, k, b"s hs traffic", &transcript[..h]);
     HandshakeSecrets {
         client: client,
         server: server,
@@ -114,10 +116,11 @@ pub fn handshake_secrets(suite: u16, handshake: [u8; 48], transcript: [u8; 48]) 
 pub fn application_secrets(suite: u16, master: [u8; 48], transcript: [u8; 48]) -> ApplicationSecrets
     ensures { λ r. ⌜ (r .client ≡ placed (fromHash suite Secret.client-application (take (hashLen suite) master) (take (hashLen suite) transcript))) × (r .server ≡ placed (fromHash suite Secret.server-application (take (hashLen suite) master) (take (hashLen suite) transcript))) × (r .exporter ≡ placed (fromHash suite Secret.exporter (take (hashLen suite) master) (take (hashLen suite) transcript))) ⌝ }
 {
+    let h = Suite::hash_len(suite);
     let k = ready(suite, master);
-    let client = derive(suite, k, b"c ap traffic", transcript);
-    let server = derive(suite, k, b"s ap traffic", transcript);
-    let exporter = derive(suite, k, b"exp master", transcript);
+    let client = derive(suite, k, b"c ap traffic", &transcript[..h]);
+    let server = derive(suite, k, b"s ap traffic", &transcript[..h]);
+    let exporter = derive(suite, k, b"exp master", &transcript[..h]);
     ApplicationSecrets {
         client: client,
         server: server,
@@ -129,6 +132,7 @@ pub fn application_secrets(suite: u16, master: [u8; 48], transcript: [u8; 48]) -
 pub fn resumption_secret(suite: u16, master: [u8; 48], transcript: [u8; 48]) -> [u8; 48]
     ensures { λ r. ⌜ r ≡ placed (fromHash suite Secret.resumption (take (hashLen suite) master) (take (hashLen suite) transcript)) ⌝ }
 {
+    let h = Suite::hash_len(suite);
     let k = ready(suite, master);
-    derive(suite, k, b"res master", transcript)
+    derive(suite, k, b"res master", &transcript[..h])
 }
