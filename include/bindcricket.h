@@ -204,7 +204,7 @@ uint8_t bindcricket_journal_read(const uint8_t *journal, size_t journal_size, si
 /* ---- The stack ---- */
 
 /* No function above uses as much stack on x86-64. */
-#define BINDCRICKET_STACK_BYTES 4096
+#define BINDCRICKET_STACK_BYTES 2560
 
 /* Makes the stack below the caller zero, BINDCRICKET_STACK_BYTES deep: to be called from the function that made the calls. */
 #if defined(__GNUC__)

@@ -6,7 +6,7 @@ use core::sync::atomic::{compiler_fence, Ordering};
 
 /// The bytes of stack below a call that are cleared after it. Every call of the library uses fewer,
 /// as a test measures.
-pub const STACK_BYTES: usize = 4096;
+pub const STACK_BYTES: usize = 2560;
 
 /// Makes every byte zero. The writes are volatile, so that they stay although nothing reads the
 /// bytes afterwards.
