@@ -1,16 +1,16 @@
 // The calls that may change the session: kinds 1 to 8, whose payloads are those of the journal.
 use super::reply::Reply;
 use super::reply::Turn;
-use application_stage::application::application;
-use application_stage::complete::complete;
-use application_stage::update::update;
+use application_stage::application;
+use complete_stage::complete::complete;
+use complete_stage::update::update;
+use early_stage::early;
+use feeding::feed;
 use frames::number2;
-use handshake_stage::early::early;
-use handshake_stage::handshake::handshake;
-use session::begin::begin;
+use handshake_stage::handshake;
+use opening_stage::begin;
+use session::Session;
 use session::close::close;
-use session::feed::feed;
-use session::record::Session;
 
 // suite 2, PSK kind 1, PSK
 fn make_begin(s: Session, p: &[u8]) -> Turn {

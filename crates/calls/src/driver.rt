@@ -9,8 +9,8 @@ use super::reads::make_check;
 use super::reply::Turn;
 use frames::Frame;
 use frames::read;
-use session::record::Session;
-use session::record::fresh;
+use session::Session;
+use session::fresh;
 
 // The session, the number of records, and whether the last of them is bad.
 struct Ran {

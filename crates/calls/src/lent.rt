@@ -12,7 +12,7 @@ use super::reads::make_finished;
 use super::reads::make_keys;
 use super::reply::Reply;
 use frames::number4;
-use session::record::Session;
+use session::Session;
 ghost use Prim.Native.Nat.{_≤_};
 
 // Where the length of the lent output stands in the payload.

@@ -4,7 +4,7 @@ use super::reply::Reply;
 use buffer::least;
 use hex::put_hex;
 use libc::STDOUT_FILENO;
-use session::record::Session;
+use session::Session;
 use text::decimal::put_decimal;
 
 pub(crate) fn say(words: &[u8]) {

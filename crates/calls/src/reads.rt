@@ -8,7 +8,7 @@ use finished::finished::finished;
 use frames::number4;
 use outputs::export::export;
 use outputs::keys::keys;
-use session::record::Session;
+use session::Session;
 
 // name 1, room 4
 pub(crate) fn make_keys(s: Session, p: &[u8], lent: &mut [u8]) -> Reply {

@@ -2,8 +2,8 @@
 use journal::record::Reading;
 use refusal::Answer;
 use refusal::verdict::Verdict;
-use session::record::Outcome;
-use session::record::Session;
+use session::Outcome;
+use session::Session;
 
 pub(crate) enum Reply {
     // The record is no call that can be made.

@@ -4,15 +4,14 @@ use mathlib.Core.Path.{_≡_, refl, sym, ap, _∙_}
 use mathlib.Core.List.{List, [], _∷_, _++_, append-assoc, append-nil}
 use native.Mathlib.Nat.{pow-suc}
 use native.Mathlib.Omega.{arith}
-use lib.ListN.{length, getD, take, drop, length-append, length-take, length-drop}
+use lib.ListN.{length, getD, take, drop, length-append}
 use lib.Seq.{take-at, drop-at, drop-drop, take-all, take-add}
 use Rattle.sha2.specs.declared.running.Running.{Running}
-use Rattle.session.specs.declared.record.Session.{Session}
+use Rattle.session.specs.declared.Session.{Session}
 use Rattle.encoding.specs.Numbers.{le, number, leWords, words}
 use Rattle.encoding.specs.Encoding.{sessionBytes, part, encodedNumbers, encodedRunning, encodedPlaces, encoded, decodedRunning, decoded}
-use Rattle.encoding.specs.Inverse.{Bytes, RunningFits, SessionFits, DecodesWhatItEncodes, EncodesWhatItDecodes}
-use Rattle.encoding.proofs.Numbers.{part-cons, length-le, length-leWords}
-use Rattle.encoding.proofs.Writing.{length-numbers}
+use Rattle.encoding.specs.Inverse.{Bytes, SessionFits, DecodesWhatItEncodes, EncodesWhatItDecodes}
+use Rattle.encoding.proofs.Numbers.{part-cons, length-le, length-leWords, length-numbers}
 
 -- the bytes of the number that bytes stand for are those bytes
 le-part : (n at : ℕ) (bs : List ℕ) → at + n ≤ length bs → Bytes bs → le n (number (part at n bs)) ≡ part at n bs

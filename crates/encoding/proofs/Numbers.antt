@@ -1,13 +1,13 @@
 -- Laws of numbers as bytes.
-use Prim.Native.Nat.{ℕ, zero, suc, _+_, _*_, _/_, _%_, _≤_, _<_, _^_}
+use Prim.Native.Nat.{ℕ, zero, suc, _+_, _*_, _/_, _%_, _≤_, _<_}
 use mathlib.Core.Path.{_≡_, refl, sym, ap, _∙_}
 use mathlib.Core.List.{List, [], _∷_, _++_, append-assoc, append-nil}
-use native.Mathlib.Numerals.{add-one}
 use native.Mathlib.Omega.{arith}
-use lib.ListN.{length, getD, take, drop, length-append, length-take, length-drop}
+use lib.ListN.{length, getD, take, drop, length-append}
 use lib.Seq.{drop-cons, drop-drop}
 use Rattle.encoding.specs.Numbers.{le, number, leWords, words}
-use Rattle.encoding.specs.Encoding.{part}
+use Rattle.session.specs.declared.Session.{Session}
+use Rattle.encoding.specs.Encoding.{part, encodedNumbers}
 
 -- one byte of a part, and what is left
 pub part-cons : (bs : List ℕ) (at n : ℕ) → at < length bs → part at (suc n) bs ≡ getD bs at 0 ∷ part (suc at) n bs
@@ -38,22 +38,11 @@ module _ (bs : List ℕ) (at : ℕ) where
   pub number-2 : at + 2 ≤ length bs → number (part at 2 bs) ≡ getD bs at 0 + 256 * getD bs (at + 1) 0
   number-2 h = omega (arith, first 1 (omega arith), number-from bs at 1 0 (omega arith), number-none bs (at + 2))
 
-  pub number-4 : at + 4 ≤ length bs → number (part at 4 bs) ≡
-      getD bs at 0 + 256 * getD bs (at + 1) 0 + 65536 * getD bs (at + 2) 0 + 16777216 * getD bs (at + 3) 0
-  number-4 h =
-      omega (
-        arith,
-        first 3 (omega arith),
-        number-from bs at 1 2 (omega arith),
-        number-from bs at 2 1 (omega arith),
-        number-from bs at 3 0 (omega arith),
-        number-none bs (at + 4),
-      )
+  -- by halves
+  pub number-4 : at + 4 ≤ length bs → number (part at 4 bs) ≡ number (part at 2 bs) + 65536 * number (part (at + 2) 2 bs)
+  number-4 h = omega (arith, first 3 (omega arith), number-from bs at 1 2 (omega arith), number-2 (omega arith))
 
-  pub number-8 : at + 8 ≤ length bs → number (part at 8 bs) ≡
-      getD bs at 0 + 256 * getD bs (at + 1) 0 + 65536 * getD bs (at + 2) 0 + 16777216 * getD bs (at + 3) 0
-      + 4294967296 * getD bs (at + 4) 0 + 1099511627776 * getD bs (at + 5) 0 + 281474976710656 * getD bs (at + 6) 0
-      + 72057594037927936 * getD bs (at + 7) 0
+  pub number-8 : at + 8 ≤ length bs → number (part at 8 bs) ≡ number (part at 4 bs) + 4294967296 * number (part (at + 4) 4 bs)
   number-8 h =
       omega (
         arith,
@@ -61,11 +50,11 @@ module _ (bs : List ℕ) (at : ℕ) where
         number-from bs at 1 6 (omega arith),
         number-from bs at 2 5 (omega arith),
         number-from bs at 3 4 (omega arith),
-        number-from bs at 4 3 (omega arith),
-        number-from bs at 5 2 (omega arith),
-        number-from bs at 6 1 (omega arith),
-        number-from bs at 7 0 (omega arith),
-        number-none bs (at + 8),
+        first 3 (omega arith),
+        number-from bs at 1 2 (omega arith),
+        number-from bs at 2 1 (omega arith),
+        number-from bs at 3 0 (omega arith),
+        number-none bs (at + 4),
       )
 
 -- words
@@ -113,3 +102,7 @@ numbers-are suite kind early point stage client server hk he =
 pub word-read : (n at i : ℕ) (bs : List ℕ) {x : ℕ} → i < n → x ≡ number (part (at + i * 8) 8 bs) → x ≡ getD (words n (drop at bs)) i 0
 word-read n at i bs h e =
     e ∙ ap (λ (l : List ℕ). number (take 8 l)) (sym (drop-drop (i * 8) at bs)) ∙ sym (words-at n (drop at bs) i h)
+
+pub length-numbers : (s : Session) → length (encodedNumbers s) ≡ 16
+unfolding encodedNumbers
+length-numbers s = simp (length-append, length-le) refl

@@ -3,7 +3,7 @@ use Prim.Native.Nat.{ℕ}
 use mathlib.Core.List.{List, _++_}
 use lib.ListN.{take, drop}
 use Rattle.sha2.specs.declared.running.Running.{Running}
-use Rattle.session.specs.declared.record.Session.{Session}
+use Rattle.session.specs.declared.Session.{Session}
 use Rattle.encoding.specs.Numbers.{le, number, leWords, words}
 
 abbrev pub sessionBytes : ℕ

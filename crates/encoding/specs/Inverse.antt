@@ -4,7 +4,7 @@ use mathlib.Core.Path.{_≡_}
 use mathlib.Core.List.{List}
 use lib.ListN.{length, getD}
 use Rattle.sha2.specs.declared.running.Running.{Running}
-use Rattle.session.specs.declared.record.Session.{Session}
+use Rattle.session.specs.declared.Session.{Session}
 use Rattle.encoding.specs.Encoding.{sessionBytes, encoded, decoded}
 
 -- a list of bytes

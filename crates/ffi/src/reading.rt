@@ -1,15 +1,15 @@
 // The calls that only read a session. Each answers its number, with what it wrote reported beside it.
-use encoding::codec::SESSION_BYTES;
-use encoding::codec::decode;
-use encoding::store::NOT_A_SESSION;
+use decoder::decode;
+use encoding::SESSION_BYTES;
 use finished::binder::binder;
 use finished::check::check;
 use finished::finished::finished;
+use lent::NOT_A_SESSION;
 use outputs::export::export;
 use outputs::keys::keys;
 ghost use mathlib.Core.List.{[]};
 ghost use Rattle.book.specs.Call.{Call};
-ghost use Rattle.encoding.specs.Called.{Called, counted, judging};
+ghost use Rattle.lent.specs.Called.{Called, counted, judging};
 
 #[no_mangle]
 pub extern "C" fn bindcricket_keys(

@@ -8,7 +8,7 @@ use Rattle.suite.specs.Suite.{hashLen}
 use Rattle.sha2.specs.Variants.{variantOf}
 use Rattle.sha2.specs.Running.{finished}
 use Rattle.schedule.specs.Schedule.{verifyData}
-use Rattle.session.specs.declared.record.Session.{Session}
+use Rattle.session.specs.declared.Session.{Session}
 use Rattle.outputs.specs.Places.{basePlace, finishedFrom}
 
 pub value-is : (s : Session) (side : ℕ) {base hash r : List ℕ} → base ≡ basePlace s side → hash ≡ finished (variantOf (s .suite)) (s .transcript)

@@ -2,7 +2,7 @@
 use super::numbers::binder_number;
 use super::values::write_value;
 use refusal::Answer;
-use session::record::Session;
+use session::Session;
 use traffic::messages_hash;
 use traffic::verify_data;
 ghost use Rattle.book.specs.Call.{Call};

@@ -3,7 +3,7 @@ use super::numbers::check_number;
 use super::values::base_place;
 use refusal::Answer;
 use refusal::verdict::Verdict;
-use session::record::Session;
+use session::Session;
 use sha2::running::finish;
 use suite::Suite;
 use traffic::verify_data;

@@ -3,7 +3,7 @@ use super::numbers::finished_number;
 use super::values::base_place;
 use super::values::write_value;
 use refusal::Answer;
-use session::record::Session;
+use session::Session;
 use sha2::running::finish;
 use traffic::verify_data;
 ghost use Rattle.book.specs.Call.{Call};

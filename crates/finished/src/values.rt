@@ -1,5 +1,5 @@
 // What the calls share: a value worked out, and written.
-use session::record::Session;
+use session::Session;
 use suite::Suite;
 ghost use mathlib.Core.Path.{_≡_};
 ghost use lib.ListN.{take};

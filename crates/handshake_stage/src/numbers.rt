@@ -1,20 +1,12 @@
-// The decisions of Early and Handshake, by plain numbers: each reads as its definition does (book/specs/Refusals).
+// The decision of Handshake, by plain numbers, as its definition reads (book/specs/Refusals).
 use super::groups::all_zero;
 use super::groups::group_bytes;
 use super::groups::is_known;
-use book::points::AFTER_CLIENT_HELLO;
 use book::points::AFTER_SERVER_HELLO;
 use book::points::EARLY;
 use refusal::refuse_if;
 ghost use mathlib.Core.Path.{_≡_};
-ghost use Rattle.book.specs.Refusals.{earlyNumber, handshakeNumber};
-
-pub(crate) fn early_number(point: u16, stage: u16, ran: u8, kind: u8) -> u8
-    ensures { λ r. ⌜ r ≡ earlyNumber point stage ran kind ⌝ }
-{
-    let ready = (point == EARLY) & ((stage == AFTER_CLIENT_HELLO) & (ran == 0));
-    refuse_if(!ready, 1, refuse_if(kind == 0, 3, 0))
-}
+ghost use Rattle.book.specs.Refusals.{handshakeNumber};
 
 pub(crate) fn handshake_number(point: u16, stage: u16, kind: u8, group: u16, secret: &[u8]) -> u8
     ensures { λ r. ⌜ r ≡ handshakeNumber point stage kind group (now (secret .entry)) ⌝ }

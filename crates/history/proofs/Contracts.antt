@@ -14,30 +14,30 @@ use denote.Ref.{now, RefT}
 use denote.Triple.Clauses.{AtExit}
 use borrow.Fn.Kinds.{endedOf}
 use Rattle.refusal.specs.declared.Answer.{Answer}
-use Rattle.session.specs.declared.record.Session.{Session}
-use Rattle.session.specs.declared.record.Outcome.{Outcome}
+use Rattle.session.specs.declared.Session.{Session}
+use Rattle.session.specs.declared.Outcome.{Outcome}
 use Rattle.refusal.specs.declared.verdict.Verdict.{Verdict}
 use Rattle.outputs.specs.Verdict.{judged}
 use Rattle.book.specs.Call.Call.{Begin, Feed, Early, Handshake, Application, Complete, Update, Close, Keys, Finished, Check, Binder, Export}
 use Rattle.session.specs.Promise.{Done, plain, wrote}
 use Rattle.history.specs.Histories.{freshSession, Demand3}
 use Rattle.history.proofs.Histories.{demand3}
-use Rattle.session.proofs.record.fresh.Reads as fresh-reads
-use Rattle.session.proofs.record.fresh.Kinds as fresh-kinds
-use Rattle.session.proofs.begin.begin.Reads as begin-reads
-use Rattle.session.proofs.begin.begin.Kinds as begin-kinds
-use Rattle.session.proofs.feed.feed.Reads as feed-reads
-use Rattle.session.proofs.feed.feed.Kinds as feed-kinds
-use Rattle.handshake_stage.proofs.early.early.Reads as early-reads
-use Rattle.handshake_stage.proofs.early.early.Kinds as early-kinds
-use Rattle.handshake_stage.proofs.handshake.handshake.Reads as handshake-reads
-use Rattle.handshake_stage.proofs.handshake.handshake.Kinds as handshake-kinds
-use Rattle.application_stage.proofs.application.application.Reads as application-reads
-use Rattle.application_stage.proofs.application.application.Kinds as application-kinds
-use Rattle.application_stage.proofs.complete.complete.Reads as complete-reads
-use Rattle.application_stage.proofs.complete.complete.Kinds as complete-kinds
-use Rattle.application_stage.proofs.update.update.Reads as update-reads
-use Rattle.application_stage.proofs.update.update.Kinds as update-kinds
+use Rattle.session.proofs.fresh.Reads as fresh-reads
+use Rattle.session.proofs.fresh.Kinds as fresh-kinds
+use Rattle.opening_stage.proofs.begin.Reads as begin-reads
+use Rattle.opening_stage.proofs.begin.Kinds as begin-kinds
+use Rattle.feeding.proofs.feed.Reads as feed-reads
+use Rattle.feeding.proofs.feed.Kinds as feed-kinds
+use Rattle.early_stage.proofs.early.Reads as early-reads
+use Rattle.early_stage.proofs.early.Kinds as early-kinds
+use Rattle.handshake_stage.proofs.handshake.Reads as handshake-reads
+use Rattle.handshake_stage.proofs.handshake.Kinds as handshake-kinds
+use Rattle.application_stage.proofs.application.Reads as application-reads
+use Rattle.application_stage.proofs.application.Kinds as application-kinds
+use Rattle.complete_stage.proofs.complete.complete.Reads as complete-reads
+use Rattle.complete_stage.proofs.complete.complete.Kinds as complete-kinds
+use Rattle.complete_stage.proofs.update.update.Reads as update-reads
+use Rattle.complete_stage.proofs.update.update.Kinds as update-kinds
 use Rattle.session.proofs.close.close.Reads as close-reads
 use Rattle.session.proofs.close.close.Kinds as close-kinds
 use Rattle.outputs.proofs.keys.keys.Reads as keys-reads

@@ -6,7 +6,7 @@ use mathlib.Core.Path.{_≡_, refl, ap, sym, _∙_, subst}
 use native.Mathlib.Omega.{arith}
 use lib.Dec.{eqb}
 use borrow.Author.Tests.{eqb-false}
-use Rattle.session.specs.declared.record.Session.{Session}
+use Rattle.session.specs.declared.Session.{Session}
 use Rattle.book.specs.Call.{Call}
 use Rattle.book.specs.Book.{Book}
 use Rattle.book.specs.Refusals.{Reached, number, next}

@@ -9,7 +9,7 @@ use Rattle.refusal.proofs.Laws.{and-true}
 use Rattle.buffer.specs.Buffer.{zeros, placed}
 use Rattle.suite.specs.Suite.{known}
 use Rattle.schedule.specs.Schedule.{earlySecret}
-use Rattle.session.specs.declared.record.Session.{Session}
+use Rattle.session.specs.declared.Session.{Session}
 use Rattle.book.specs.Call.{Call}
 use Rattle.book.specs.Call.Call.{Begin}
 use Rattle.book.specs.Book.{blankAt, fresh, note}

@@ -4,7 +4,7 @@ use mathlib.Core.Bool.{Bool, true, false, cond, _&&_}
 use mathlib.Core.List.{List, [], _∷_}
 use mathlib.Core.Path.{_≡_}
 use lib.Dec.{eqb}
-use Rattle.session.specs.declared.record.Session.{Session}
+use Rattle.session.specs.declared.Session.{Session}
 use Rattle.book.specs.Call.{Call}
 use Rattle.book.specs.Book.{Book, blankAt, fresh}
 use Rattle.book.specs.Refusals.{next, keysHeld, exportHeld}

@@ -1,6 +1,6 @@
 // The session where it lies: the two calls that change the record that a modem keeps for as long as its link is up.
 use refusal::Answer;
-use session::record::Session;
+use session::Session;
 ghost use mathlib.Core.Path.{_≡_};
 ghost use Rattle.book.specs.Call.{Call};
 ghost use Rattle.session.specs.Promise.{Done, plain};
@@ -9,7 +9,7 @@ ghost use Rattle.session.specs.Promise.{Done, plain};
 pub fn feed(s: &mut Session, message: &[u8]) -> Answer
     ensures { λ r. ⌜ Done (now (s .entry)) (Call.Feed (now (message .entry))) (now (s .exit)) (plain r) ⌝ }
 {
-    let a = session::feed::feed(*s, message);
+    let a = feeding::feed(*s, message);
     *s = a.session;
     a.answer
 }
@@ -18,7 +18,7 @@ pub fn feed(s: &mut Session, message: &[u8]) -> Answer
 pub fn update(s: &mut Session, side: u8) -> Answer
     ensures { λ r. ⌜ Done (now (s .entry)) (Call.Update side) (now (s .exit)) (plain r) ⌝ }
 {
-    let a = application_stage::update::update(*s, side);
+    let a = complete_stage::update::update(*s, side);
     *s = a.session;
     a.answer
 }

@@ -14,7 +14,7 @@ use Rattle.suite.specs.Suite.{hashLen, keyLen, ivLen}
 use Rattle.sha2.specs.Hash.{hash, maxInput}
 use Rattle.schedule.specs.Schedule.{within, trafficKeys, verifyData}
 use Rattle.schedule.proofs.Laws.{length-trafficKeys, length-verifyData}
-use Rattle.session.specs.declared.record.Session.{Session}
+use Rattle.session.specs.declared.Session.{Session}
 use Rattle.book.specs.Call.{Call, lent}
 use Rattle.book.specs.Call.Call.{Keys, Finished, Check, Binder}
 use Rattle.book.specs.Book.{Book, note}

@@ -3,7 +3,7 @@ use Prim.Native.Nat.{ℕ}
 use mathlib.Core.List.{List}
 use mathlib.Core.Path.{_≡_, ap, _∙_}
 use lib.ListN.{length}
-use Rattle.session.specs.declared.record.Session.{Session}
+use Rattle.session.specs.declared.Session.{Session}
 use Rattle.book.specs.Call.Call.{Keys, Finished, Check, Binder, Export}
 use Rattle.book.specs.Book.{Book}
 use Rattle.book.specs.Refusals.{number, keysNumber, finishedNumber, checkNumber, binderNumber, exportNumber, Reached}

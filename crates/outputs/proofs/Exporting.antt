@@ -19,7 +19,7 @@ use Rattle.hkdf.specs.Refusals.{expandLabelNumber}
 use Rattle.hkdf.proofs.Limits.{label-allowed}
 use Rattle.schedule.specs.Schedule.{within, tlsExporter}
 use Rattle.schedule.proofs.Laws.{length-tlsExporter}
-use Rattle.session.specs.declared.record.Session.{Session}
+use Rattle.session.specs.declared.Session.{Session}
 use Rattle.book.specs.Call.{lent}
 use Rattle.book.specs.Call.Call.{Export}
 use Rattle.book.specs.Book.{Book, note}

@@ -17,7 +17,7 @@ use Rattle.schedule.specs.Labels.{binderOf}
 use Rattle.schedule.specs.Labels.Secret.{client-early, early-exporter, client-handshake, server-handshake, exporter}
 use Rattle.schedule.specs.Schedule.{within, trafficKeys, verifyData, tlsExporter}
 use Rattle.schedule.proofs.Laws.{within-limit}
-use Rattle.session.specs.declared.record.Session.{Session}
+use Rattle.session.specs.declared.Session.{Session}
 use Rattle.book.specs.Call.Call.{Keys, Finished, Check, Binder, Export}
 use Rattle.book.specs.Messages.{transcript}
 use Rattle.book.specs.Book.{Book, stageOf}

@@ -1,9 +1,9 @@
 // Export: bytes for other uses (RFC 8446, section 7.5).
 use super::numbers::export_number;
 use super::numbers::length_in_force;
+use exporter::tls_exporter;
 use refusal::Answer;
-use schedule::exporter::tls_exporter;
-use session::record::Session;
+use session::Session;
 ghost use mathlib.Core.Path.{_≡_};
 ghost use mathlib.Core.Bool.{cond};
 ghost use lib.Dec.{eqb};

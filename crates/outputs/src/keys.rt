@@ -1,7 +1,7 @@
 // Keys: the traffic key and IV of a secret that is held.
 use super::numbers::keys_number;
 use refusal::Answer;
-use session::record::Session;
+use session::Session;
 use suite::Suite;
 use traffic::traffic_keys;
 ghost use mathlib.Core.Path.{_≡_};

@@ -9,7 +9,7 @@ use lib.Seq.{drop-drop, drop-at}
 use borrow.Author.Tests.{le-leb, lt-leb, leb-true, not-true, not-false}
 use Rattle.refusal.proofs.Laws.{and-true}
 use Rattle.frames.specs.Frames.{number2, number4}
-use Rattle.session.specs.declared.record.Session.{Session}
+use Rattle.session.specs.declared.Session.{Session}
 use Rattle.book.specs.Call.{Call}
 use Rattle.session.specs.Promise.{Reply, Done}
 use Rattle.perform.specs.declared.encoded.Header.{Header}

@@ -1,24 +1,24 @@
 // Performs any list of calls that is given as bytes (specs/Encoding), from a fresh session.
 pub mod encoded;
 
-use application_stage::application::application;
-use application_stage::complete::complete;
-use application_stage::update::update;
+use application_stage::application;
+use complete_stage::complete::complete;
+use complete_stage::update::update;
+use early_stage::early;
 use encoded::Header;
 use encoded::is_whole;
 use encoded::read_header;
+use feeding::feed;
 use finished::binder::binder;
 use finished::check::check;
 use finished::finished::finished;
-use handshake_stage::early::early;
-use handshake_stage::handshake::handshake;
+use handshake_stage::handshake;
+use opening_stage::begin;
 use outputs::export::export;
 use outputs::keys::keys;
-use session::begin::begin;
+use session::Session;
 use session::close::close;
-use session::feed::feed;
-use session::record::Session;
-use session::record::fresh;
+use session::fresh;
 ghost use mathlib.Core.Path.{_≡_};
 ghost use mathlib.Core.List.{List};
 ghost use Rattle.session.specs.Promise.{Reply, Done};

@@ -5,7 +5,7 @@ use mathlib.Core.List.{List}
 use mathlib.Core.Path.{_≡_, sym, ap, _∙_, subst}
 use lib.ListN.{length}
 use borrow.Author.Tests.{eq-eqb, ne-eqb}
-use Rattle.session.specs.declared.record.Session.{Session}
+use Rattle.session.specs.declared.Session.{Session}
 use Rattle.book.specs.Call.Call.{Begin, Early, Handshake, Application, Complete, Update}
 use Rattle.book.specs.Book.{Book, stageOf}
 use Rattle.book.specs.Refusals.{number, beginNumber, earlyNumber, handshakeNumber, applicationNumber, completeNumber, updateNumber, Reached}

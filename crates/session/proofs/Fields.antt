@@ -7,7 +7,7 @@ use Rattle.sha2.specs.Variants.{variantOf}
 use Rattle.sha2.specs.Running.{runningOf}
 use Rattle.schedule.specs.Labels.{binderOf}
 use Rattle.schedule.specs.Labels.Secret.{client-early, early-exporter, client-handshake, server-handshake, exporter, resumption}
-use Rattle.session.specs.declared.record.Session.{Session}
+use Rattle.session.specs.declared.Session.{Session}
 use Rattle.book.specs.Messages.{transcript}
 use Rattle.book.specs.Book.{Book, stageOf}
 use Rattle.book.specs.Held.{chainHeld, binderHeld, earlyHeld, handshakeHeld, applicationHeld, resumptionHeld}

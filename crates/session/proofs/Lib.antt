@@ -1,6 +1,5 @@
 pub mod Calls
 pub mod Decisions
 pub mod Fields
-pub mod Feeding
 pub mod Secrets
 pub mod Steps

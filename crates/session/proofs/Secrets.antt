@@ -21,7 +21,7 @@ use Rattle.schedule.specs.Labels.Secret.{binder-external, binder-resumption, cl
 use Rattle.schedule.specs.Diagram.{from, until}
 use Rattle.schedule.specs.Schedule.{fromHash, nextTrafficSecret}
 use Rattle.schedule.proofs.Laws.{from-hash, length-early, length-handshake, length-master, length-updated}
-use Rattle.session.specs.declared.record.Session.{Session}
+use Rattle.session.specs.declared.Session.{Session}
 use Rattle.book.specs.Messages.{upTo, transcript}
 use Rattle.book.specs.Book.{Book, fedOf}
 use Rattle.session.specs.Values.{earlySecretOf, handshakeSecretOf, masterSecretOf, chainOf, secretOf, clientApplication, serverApplication, transcriptHash}

@@ -22,7 +22,7 @@ use Rattle.schedule.specs.Labels.Secret.{client-early, early-exporter, client-h
 use Rattle.schedule.specs.Diagram.{from, until}
 use Rattle.schedule.specs.Schedule.{within, earlySecret, handshakeSecret, masterSecret, fromHash, nextTrafficSecret, updated}
 use Rattle.schedule.proofs.Laws.{within-limit}
-use Rattle.session.specs.declared.record.Session.{Session}
+use Rattle.session.specs.declared.Session.{Session}
 use Rattle.book.specs.Call.Call.{Begin, Early, Handshake, Application, Complete, Update, Close}
 use Rattle.book.specs.Messages.{stageFrom, transcript}
 use Rattle.book.specs.Book.{Book, blankAt, stageOf, note}

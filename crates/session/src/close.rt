@@ -1,7 +1,7 @@
 // Close.
-use super::record::Outcome;
-use super::record::Session;
-use super::record::fresh;
+use super::Outcome;
+use super::Session;
+use super::fresh;
 use book::points::CLOSED;
 use refusal::Answer;
 ghost use mathlib.Core.Path.{_≡_};

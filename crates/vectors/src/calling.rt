@@ -13,9 +13,9 @@ use super::output::say;
 use super::output::say_refused;
 use super::reading::read;
 use refusal::Answer;
-use session::record::Outcome;
-use session::record::Session;
-use session::record::fresh;
+use session::Outcome;
+use session::Session;
+use session::fresh;
 use text::field::field_end;
 
 pub(crate) enum Change {
@@ -40,13 +40,13 @@ fn anew() -> Outcome {
 fn call(s: Session, change: Change, first: u16, second: usize, bytes: &[u8]) -> Outcome {
     match change {
         Change::Fresh => anew(),
-        Change::Begin => session::begin::begin(s, first, small(second), bytes),
-        Change::Feed => session::feed::feed(s, bytes),
-        Change::Early => handshake_stage::early::early(s),
-        Change::Handshake => handshake_stage::handshake::handshake(s, first, bytes),
-        Change::Application => application_stage::application::application(s),
-        Change::Complete => application_stage::complete::complete(s),
-        Change::Update => application_stage::update::update(s, small(first as usize)),
+        Change::Begin => opening_stage::begin(s, first, small(second), bytes),
+        Change::Feed => feeding::feed(s, bytes),
+        Change::Early => early_stage::early(s),
+        Change::Handshake => handshake_stage::handshake(s, first, bytes),
+        Change::Application => application_stage::application(s),
+        Change::Complete => complete_stage::complete::complete(s),
+        Change::Update => complete_stage::update::update(s, small(first as usize)),
         Change::Close => session::close::close(s),
     }
 }

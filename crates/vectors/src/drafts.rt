@@ -5,15 +5,15 @@
 use super::output::say;
 use super::output::say_refused;
 use super::places::place;
-use application_stage::application::application;
+use application_stage::application;
 use check::same;
 use extract::extract;
-use handshake_stage::handshake::handshake;
+use handshake_stage::handshake;
 use hkdf::label::expand_label;
 use oneshot::hash;
 use outputs::export::export;
 use refusal::Answer;
-use session::record::Session;
+use session::Session;
 use suite::Suite;
 
 // Compares what the session's call and the draft's made.

@@ -1,5 +1,5 @@
 // The session's places.
-use session::record::Session;
+use session::Session;
 
 // The ten places, in the order of document 01's table; zeros for another number.
 pub(crate) fn place(s: Session, n: u8) -> [u8; 48] {

@@ -9,7 +9,7 @@ use super::output::say_hex;
 use super::output::say_refused;
 use super::output::say_written;
 use super::places::place;
-use session::record::Session;
+use session::Session;
 
 pub(crate) enum Reading {
     Place,

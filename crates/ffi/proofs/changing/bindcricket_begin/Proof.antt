@@ -2,15 +2,15 @@ use native.Mathlib.Omega.{arith}
 use denote.Ref.{now}
 use mathlib.Core.List.{[]}
 use Rattle.book.specs.Call.Call.{Begin}
-use Rattle.encoding.proofs.Calls.{wrong-size, changing}
+use Rattle.lent.proofs.Calls.{wrong-size, changing}
 use borrow.Author.Needs.{needs}
 use Rattle.ffi.proofs.changing.bindcricket_begin.Statement.{statement}
 use Rattle.ffi.proofs.changing.bindcricket_begin.Tie as tie
 use Rattle.ffi.proofs.changing.bindcricket_begin.Reads as reads
 use Rattle.ffi.proofs.changing.bindcricket_begin.Lts as lts
-use Rattle.encoding.proofs.codec.decode.Reads as decode-reads
-use Rattle.encoding.proofs.store.store.Reads as store-reads
-use Rattle.session.proofs.begin.begin.Reads as begin-reads
+use Rattle.decoder.proofs.decode.Reads as decode-reads
+use Rattle.lent.proofs.store.Reads as store-reads
+use Rattle.opening_stage.proofs.begin.Reads as begin-reads
 
 -- src/changing.rt:59:9
 returns : tie.Need-returns

@@ -2,15 +2,15 @@ use native.Mathlib.Omega.{arith}
 use denote.Ref.{now}
 use mathlib.Core.List.{[]}
 use Rattle.book.specs.Call.Call.{Complete}
-use Rattle.encoding.proofs.Calls.{wrong-size, changing}
+use Rattle.lent.proofs.Calls.{wrong-size, changing}
 use borrow.Author.Needs.{needs}
 use Rattle.ffi.proofs.changing.bindcricket_complete.Statement.{statement}
 use Rattle.ffi.proofs.changing.bindcricket_complete.Tie as tie
 use Rattle.ffi.proofs.changing.bindcricket_complete.Reads as reads
 use Rattle.ffi.proofs.changing.bindcricket_complete.Lts as lts
-use Rattle.application_stage.proofs.complete.complete.Reads as complete-reads
-use Rattle.encoding.proofs.codec.decode.Reads as decode-reads
-use Rattle.encoding.proofs.store.store.Reads as store-reads
+use Rattle.complete_stage.proofs.complete.complete.Reads as complete-reads
+use Rattle.decoder.proofs.decode.Reads as decode-reads
+use Rattle.lent.proofs.store.Reads as store-reads
 
 -- src/changing.rt:114:9
 returns : tie.Need-returns

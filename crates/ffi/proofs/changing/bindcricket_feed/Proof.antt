@@ -2,15 +2,15 @@ use native.Mathlib.Omega.{arith}
 use denote.Ref.{now}
 use mathlib.Core.List.{[]}
 use Rattle.book.specs.Call.Call.{Feed}
-use Rattle.encoding.proofs.Calls.{wrong-size, changing}
+use Rattle.lent.proofs.Calls.{wrong-size, changing}
 use borrow.Author.Needs.{needs}
 use Rattle.ffi.proofs.changing.bindcricket_feed.Statement.{statement}
 use Rattle.ffi.proofs.changing.bindcricket_feed.Tie as tie
 use Rattle.ffi.proofs.changing.bindcricket_feed.Reads as reads
 use Rattle.ffi.proofs.changing.bindcricket_feed.Lts as lts
-use Rattle.encoding.proofs.codec.decode.Reads as decode-reads
-use Rattle.encoding.proofs.store.store.Reads as store-reads
-use Rattle.session.proofs.feed.feed.Reads as feed-reads
+use Rattle.decoder.proofs.decode.Reads as decode-reads
+use Rattle.lent.proofs.store.Reads as store-reads
+use Rattle.feeding.proofs.feed.Reads as feed-reads
 
 -- src/changing.rt:70:9
 returns : tie.Need-returns

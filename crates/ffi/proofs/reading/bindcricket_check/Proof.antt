@@ -6,14 +6,14 @@ use native.Mathlib.Omega.{arith}
 use denote.Ref.{now}
 use mathlib.Core.List.{[]}
 use Rattle.book.specs.Call.Call.{Check}
-use Rattle.encoding.proofs.Calls.{wrong-size}
+use Rattle.lent.proofs.Calls.{wrong-size}
 use Rattle.ffi.proofs.Calls.{saying}
 use borrow.Author.Needs.{needs}
 use Rattle.ffi.proofs.reading.bindcricket_check.Statement.{statement}
 use Rattle.ffi.proofs.reading.bindcricket_check.Tie as tie
 use Rattle.ffi.proofs.reading.bindcricket_check.Reads as reads
 use Rattle.ffi.proofs.reading.bindcricket_check.Lts as lts
-use Rattle.encoding.proofs.codec.decode.Reads as decode-reads
+use Rattle.decoder.proofs.decode.Reads as decode-reads
 use Rattle.finished.proofs.check.check.Reads as check-reads
 use Rattle.refusal.proofs.verdict.Verdict.is_yes.Reads as is-yes-reads
 use Rattle.refusal.proofs.verdict.Verdict.number.Reads as number-reads

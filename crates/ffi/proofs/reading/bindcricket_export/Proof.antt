@@ -1,14 +1,14 @@
 use native.Mathlib.Omega.{arith}
 use denote.Ref.{now}
 use Rattle.book.specs.Call.Call.{Export}
-use Rattle.encoding.proofs.Calls.{wrong-size}
+use Rattle.lent.proofs.Calls.{wrong-size}
 use Rattle.ffi.proofs.Calls.{writing}
 use borrow.Author.Needs.{needs}
 use Rattle.ffi.proofs.reading.bindcricket_export.Statement.{statement}
 use Rattle.ffi.proofs.reading.bindcricket_export.Tie as tie
 use Rattle.ffi.proofs.reading.bindcricket_export.Reads as reads
 use Rattle.ffi.proofs.reading.bindcricket_export.Lts as lts
-use Rattle.encoding.proofs.codec.decode.Reads as decode-reads
+use Rattle.decoder.proofs.decode.Reads as decode-reads
 use Rattle.outputs.proofs.export.export.Reads as export-reads
 use Rattle.refusal.proofs.Answer.count.Reads as count-reads
 use Rattle.refusal.proofs.Answer.number.Reads as number-reads

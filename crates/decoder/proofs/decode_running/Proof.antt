@@ -1,0 +1,29 @@
+use Rattle.encoding.specs.Encoding.{decodedRunning}
+use borrow.Author.Needs.{needs}
+use Rattle.decoder.proofs.decode_running.Statement.{statement}
+use Rattle.decoder.proofs.decode_running.Tie as tie
+use Rattle.decoder.proofs.decode_running.Reads as reads
+use Rattle.decoder.proofs.decode_running.Lts as lts
+use Rattle.decoder.proofs.part128.Reads as part128-reads
+use Rattle.decoder.proofs.words.Reads as words-reads
+use Rattle.decoder.proofs.number.number8.Reads as number8-reads
+
+-- src/lib.rt:64:9
+words-requires : tie.Need-words-requires
+words-requires c κs = search needs
+
+-- src/lib.rt:65:9
+part128-requires : tie.Need-part128-requires
+part128-requires c κs = search needs
+
+-- src/lib.rt:69:16
+number8-requires : tie.Need-number8-requires
+number8-requires c κs = search needs
+
+-- src/lib.rt:60:1
+returns : tie.Need-returns
+unfolding decodedRunning
+returns c = rw (c .before .before .words .ensures, c .before .part128 .ensures, c .number8 .ensures)
+
+pub decode-running-spec : {M : Type 1} → statement M
+decode-running-spec = tie.close (tie.spec words-requires part128-requires number8-requires returns)

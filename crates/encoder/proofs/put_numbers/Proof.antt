@@ -1,0 +1,37 @@
+use denote.Ref.{now}
+use Rattle.encoding.specs.Encoding.{encodedNumbers}
+use Rattle.encoder.proofs.Writing.{numbers-over}
+use borrow.Author.Needs.{needs}
+use Rattle.encoder.proofs.put_numbers.Statement.{statement}
+use Rattle.encoder.proofs.put_numbers.Tie as tie
+use Rattle.encoder.proofs.put_numbers.Reads as reads
+use Rattle.encoder.proofs.put_numbers.Lts as lts
+use Rattle.buffer.proofs.put.Reads as put-reads
+use Rattle.encoder.proofs.numbers.Reads as numbers-reads
+
+-- src/lib.rt:166:16
+numbers-requires : tie.Need-numbers-requires
+numbers-requires c κs = search needs
+
+-- src/lib.rt:175:25
+slice-aggregate-put : tie.Need-slice-aggregate-put
+slice-aggregate-put c = search needs
+
+-- src/lib.rt:175:5
+put-requires : tie.Need-put-requires
+put-requires c κs = search needs
+
+-- src/lib.rt:162:1
+same-length : tie.Need-same-length
+same-length c = search needs
+
+-- src/lib.rt:162:1
+returns : tie.Need-returns
+unfolding encodedNumbers
+returns c =
+    let s = c .before .before .before .before .before .before .before in
+    numbers-over (s .args .s) (now (s .args .out)) (s .pre) (c .before .before .before .before .before .numbers .ensures) (c .before .before .put .ensures .0) (c .before .before .put .ensures .1)
+
+pub put-numbers-spec : {M : Type 1} → statement M
+put-numbers-spec =
+    tie.close (tie.spec numbers-requires slice-aggregate-put put-requires same-length returns)

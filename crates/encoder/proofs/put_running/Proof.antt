@@ -1,0 +1,54 @@
+use denote.Ref.{now}
+use Rattle.encoder.proofs.Writing.{running-over}
+use borrow.Author.Needs.{needs}
+use Rattle.encoder.proofs.put_running.Statement.{statement}
+use Rattle.encoder.proofs.put_running.Tie as tie
+use Rattle.encoder.proofs.put_running.Reads as reads
+use Rattle.encoder.proofs.put_running.Lts as lts
+use Rattle.buffer.proofs.put.Reads as put-reads
+use Rattle.encoder.proofs.put_block.Reads as put-block-reads
+use Rattle.encoder.proofs.put_words.Reads as put-words-reads
+use Rattle.encoder.proofs.le8.Reads as le8-reads
+
+-- src/lib.rt:174:17
+le8-requires : tie.Need-le8-requires
+le8-requires c κs = search needs
+
+-- src/lib.rt:175:9
+put-words-requires : tie.Need-put-words-requires
+put-words-requires c κs = search needs
+
+-- src/lib.rt:176:9
+put-block-requires : tie.Need-put-block-requires
+put-block-requires c κs = search needs
+
+-- src/lib.rt:177:25
+slice-aggregate-put : tie.Need-slice-aggregate-put
+slice-aggregate-put c = search needs
+
+-- src/lib.rt:177:5
+put-requires : tie.Need-put-requires
+put-requires c κs = search needs
+
+-- src/lib.rt:168:1
+same-length : tie.Need-same-length
+same-length c = search needs
+
+-- src/lib.rt:168:1
+returns : tie.Need-returns
+returns c =
+    let s = c .before .before .before .before .before .before .before .before .before .before .before .before .before .before .before .before .before in
+    running-over (s .args .at) (now (s .args .out)) (s .args .h) (s .pre) (c .before .before .before .before .before .before .before .before .before .before .before .put-words .ensures) (c .before .before .before .before .before .before .before .before .before .before .before .before .before .le8 .ensures)
+    (c .before .before .before .before .before .before .before .put-block .ensures) (c .before .before .put .ensures .0) (c .before .before .put .ensures .1)
+
+pub put-running-spec : {M : Type 1} → statement M
+put-running-spec =
+    tie.close
+    (tie.spec
+    le8-requires
+    put-words-requires
+    put-block-requires
+    slice-aggregate-put
+    put-requires
+    same-length
+    returns)
