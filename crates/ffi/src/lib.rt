@@ -3,3 +3,4 @@
 pub mod changing;
 pub mod lower;
 pub mod reading;
+mod report;

@@ -1,4 +1,5 @@
 // The calls below the session: hash, HMAC and HKDF by the number of a suite. Each writes to the front of out.
+use super::report::report;
 ghost use lib.ListN.{length};
 ghost use Rattle.sha2.specs.Hash.{hash, hashNumber};
 ghost use Rattle.hmac.specs.Rfc2104.{hmac};
@@ -16,9 +17,7 @@ pub extern "C" fn bindcricket_hash(
 ) -> u8
     ensures { λ r. ⌜ Reported (hashNumber suite (length (now (input .entry))) (length (now (out .entry)))) (hash suite (now (input .entry))) (now (out .entry)) r (now (written .exit)) (now (out .exit)) ⌝ }
 {
-    let answer = oneshot::hash(suite, input, out);
-    *written = answer.count();
-    answer.number()
+    report(oneshot::hash(suite, input, out), written)
 }
 
 #[no_mangle]
@@ -31,9 +30,7 @@ pub extern "C" fn bindcricket_hmac(
 ) -> u8
     ensures { λ r. ⌜ Reported (macNumber suite (length (now (key .entry))) (length (now (message .entry))) (length (now (out .entry)))) (hmac suite (now (key .entry)) (now (message .entry))) (now (out .entry)) r (now (written .exit)) (now (out .exit)) ⌝ }
 {
-    let answer = extract::hmac(suite, key, message, out);
-    *written = answer.count();
-    answer.number()
+    report(extract::hmac(suite, key, message, out), written)
 }
 
 #[no_mangle]
@@ -46,9 +43,7 @@ pub extern "C" fn bindcricket_extract(
 ) -> u8
     ensures { λ r. ⌜ Reported (macNumber suite (length (now (salt .entry))) (length (now (input .entry))) (length (now (out .entry)))) (extract suite (now (salt .entry)) (now (input .entry))) (now (out .entry)) r (now (written .exit)) (now (out .exit)) ⌝ }
 {
-    let answer = extract::extract(suite, salt, input, out);
-    *written = answer.count();
-    answer.number()
+    report(extract::extract(suite, salt, input, out), written)
 }
 
 #[no_mangle]
@@ -62,9 +57,10 @@ pub extern "C" fn bindcricket_expand(
 ) -> u8
     ensures { λ r. ⌜ Reported (expandNumber suite (length (now (secret .entry))) (length (now (info .entry))) asked (length (now (out .entry)))) (expand suite (now (secret .entry)) (now (info .entry)) asked) (now (out .entry)) r (now (written .exit)) (now (out .exit)) ⌝ }
 {
-    let answer = hkdf::expand::expand(suite, secret, info, asked, out);
-    *written = answer.count();
-    answer.number()
+    report(
+        hkdf::expand::expand(suite, secret, info, asked, out),
+        written,
+    )
 }
 
 #[no_mangle]
@@ -79,9 +75,10 @@ pub extern "C" fn bindcricket_expand_label(
 ) -> u8
     ensures { λ r. ⌜ Reported (expandLabelNumber suite (length (now (secret .entry))) (length (now (label .entry))) (length (now (context .entry))) asked (length (now (out .entry)))) (expandLabel suite (now (secret .entry)) (now (label .entry)) (now (context .entry)) asked) (now (out .entry)) r (now (written .exit)) (now (out .exit)) ⌝ }
 {
-    let answer = hkdf::label::expand_label(suite, secret, label, context, asked, out);
-    *written = answer.count();
-    answer.number()
+    report(
+        hkdf::label::expand_label(suite, secret, label, context, asked, out),
+        written,
+    )
 }
 
 #[no_mangle]
@@ -95,7 +92,8 @@ pub extern "C" fn bindcricket_derive_secret(
 ) -> u8
     ensures { λ r. ⌜ Reported (deriveSecretNumber suite (length (now (secret .entry))) (length (now (label .entry))) (length (now (messages .entry))) (length (now (out .entry)))) (deriveSecret suite (now (secret .entry)) (now (label .entry)) (now (messages .entry))) (now (out .entry)) r (now (written .exit)) (now (out .exit)) ⌝ }
 {
-    let answer = hkdf::label::derive_secret(suite, secret, label, messages, out);
-    *written = answer.count();
-    answer.number()
+    report(
+        hkdf::label::derive_secret(suite, secret, label, messages, out),
+        written,
+    )
 }

@@ -1,4 +1,5 @@
 // The calls that only read a session. Each answers its number, with what it wrote reported beside it.
+use super::report::report;
 use decoder::decode;
 use encoding::SESSION_BYTES;
 use finished::binder::binder;
@@ -24,9 +25,7 @@ pub extern "C" fn bindcricket_keys(
         *written = 0;
         return NOT_A_SESSION;
     }
-    let answer = keys(decode(session), name, out);
-    *written = answer.count();
-    answer.number()
+    report(keys(decode(session), name, out), written)
 }
 
 #[no_mangle]
@@ -42,9 +41,7 @@ pub extern "C" fn bindcricket_finished(
         *written = 0;
         return NOT_A_SESSION;
     }
-    let answer = finished(decode(session), side, out);
-    *written = answer.count();
-    answer.number()
+    report(finished(decode(session), side, out), written)
 }
 
 #[no_mangle]
@@ -60,9 +57,7 @@ pub extern "C" fn bindcricket_binder(
         *written = 0;
         return NOT_A_SESSION;
     }
-    let answer = binder(decode(session), hello, out);
-    *written = answer.count();
-    answer.number()
+    report(binder(decode(session), hello, out), written)
 }
 
 #[no_mangle]
@@ -81,9 +76,10 @@ pub extern "C" fn bindcricket_export(
         *written = 0;
         return NOT_A_SESSION;
     }
-    let answer = export(decode(session), name, label, context, asked, out);
-    *written = answer.count();
-    answer.number()
+    report(
+        export(decode(session), name, label, context, asked, out),
+        written,
+    )
 }
 
 // yes becomes 1 where the verdict is yes, else 0.
