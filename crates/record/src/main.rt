@@ -4,8 +4,8 @@ mod message;
 
 use libc::STDIN_FILENO;
 use libc::STDOUT_FILENO;
-use script::list::Written;
-use script::list::journal_of;
+use script::Written;
+use script::journal_of;
 
 // The longest text.
 const MAX: usize = 262144;

@@ -1,6 +1,6 @@
 // What is said of a bad line.
 use libc::STDERR_FILENO;
-use script::fault::Fault;
+use script_line::fault::Fault;
 
 pub(crate) fn say(words: &[u8]) {
     io::write_all(STDERR_FILENO, words);
