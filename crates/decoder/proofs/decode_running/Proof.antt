@@ -8,19 +8,15 @@ use Rattle.decoder.proofs.part128.Reads as part128-reads
 use Rattle.decoder.proofs.words.Reads as words-reads
 use Rattle.decoder.proofs.number.number8.Reads as number8-reads
 
--- src/lib.rt:64:9
 words-requires : tie.Need-words-requires
 words-requires c κs = search needs
 
--- src/lib.rt:65:9
 part128-requires : tie.Need-part128-requires
 part128-requires c κs = search needs
 
--- src/lib.rt:69:16
 number8-requires : tie.Need-number8-requires
 number8-requires c κs = search needs
 
--- src/lib.rt:60:1
 returns : tie.Need-returns
 unfolding decodedRunning
 returns c = rw (c .before .before .words .ensures, c .before .part128 .ensures, c .number8 .ensures)

@@ -11,35 +11,27 @@ use Rattle.decoder.proofs.part128.Lts as lts
 use Rattle.buffer.proofs.put.Reads as put-reads
 use Rattle.buffer.proofs.zeros128.Reads as zeros128-reads
 
--- src/lib.rt:39:13
 add-e : tie.Need-add-e
 add-e c = search needs
 
--- src/lib.rt:40:17
 zeros128-requires : tie.Need-zeros128-requires
 zeros128-requires c κs = search needs
 
--- src/lib.rt:41:17
 slice-aggregate-put : tie.Need-slice-aggregate-put
 slice-aggregate-put c = search needs
 
--- src/lib.rt:41:28
 sub-put : tie.Need-sub-put
 sub-put c = search needs
 
--- src/lib.rt:41:28
 part-put-start : tie.Need-part-put-start
 part-put-start c = search needs
 
--- src/lib.rt:41:28
 part-put-end : tie.Need-part-put-end
 part-put-end c = search needs
 
--- src/lib.rt:41:5
 put-requires : tie.Need-put-requires
 put-requires c κs = search needs
 
--- src/lib.rt:35:1
 returns : tie.Need-returns
 returns c = let s = c .before .before .before .before .before .before in
     copied 128 (s .args .at) (now (s .args .b)) (c .before .before .before .before .zeros128 .result) {k = s .args .at + 128 - s .args .at} (omega arith) (rw (c .before .before .before .before .zeros128 .ensures) (length-zeros 128)) (omega arith) (c .before .put .ensures .1)

@@ -11,35 +11,27 @@ use Rattle.decoder.proofs.part48.Lts as lts
 use Rattle.buffer.proofs.put.Reads as put-reads
 use Rattle.buffer.proofs.zeros48.Reads as zeros48-reads
 
--- src/lib.rt:29:13
 add-e : tie.Need-add-e
 add-e c = search needs
 
--- src/lib.rt:30:17
 zeros48-requires : tie.Need-zeros48-requires
 zeros48-requires c κs = search needs
 
--- src/lib.rt:31:17
 slice-aggregate-put : tie.Need-slice-aggregate-put
 slice-aggregate-put c = search needs
 
--- src/lib.rt:31:28
 sub-put : tie.Need-sub-put
 sub-put c = search needs
 
--- src/lib.rt:31:28
 part-put-start : tie.Need-part-put-start
 part-put-start c = search needs
 
--- src/lib.rt:31:28
 part-put-end : tie.Need-part-put-end
 part-put-end c = search needs
 
--- src/lib.rt:31:5
 put-requires : tie.Need-put-requires
 put-requires c κs = search needs
 
--- src/lib.rt:25:1
 returns : tie.Need-returns
 returns c = let s = c .before .before .before .before .before .before in
     copied 48 (s .args .at) (now (s .args .b)) (c .before .before .before .before .zeros48 .result) {k = s .args .at + 48 - s .args .at} (omega arith) (rw (c .before .before .before .before .zeros48 .ensures) (length-zeros 48)) (omega arith) (c .before .put .ensures .1)

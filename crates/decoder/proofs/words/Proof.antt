@@ -19,39 +19,30 @@ Inv-loop b r₀ i₀ r i = (i ≤ 8) × (length r ≡ 8) × (length b ≡ 696) �
 abbrev μ-loop : tie.MeasureT-loop
 μ-loop b r₀ i₀ r i = 8 - i
 
--- src/lib.rt:52:5
 loop-holds : tie.Need-loop-holds Inv-loop μ-loop
 loop-holds c = (omega arith, omega arith, omega arith, refl)
 
--- src/lib.rt:53:32
 mul-number8 : tie.Need-mul-number8 Inv-loop μ-loop
 mul-number8 c = search needs
 
--- src/lib.rt:53:27
 add-number8 : tie.Need-add-number8 Inv-loop μ-loop
 add-number8 c = search needs
 
--- src/lib.rt:53:16
 number8-requires : tie.Need-number8-requires Inv-loop μ-loop
 number8-requires c κs = search needs
 
--- src/lib.rt:53:9
 mul-r : tie.Need-mul-r Inv-loop μ-loop
 mul-r c = search needs
 
--- src/lib.rt:53:9
 array-write-r : tie.Need-array-write-r Inv-loop μ-loop
 array-write-r c = search needs
 
--- src/lib.rt:54:9
 add-i : tie.Need-add-i Inv-loop μ-loop
 add-i c = search needs
 
--- src/lib.rt:52:5
 loop-less : tie.Need-loop-less Inv-loop μ-loop
 loop-less c = search needs
 
--- src/lib.rt:52:5
 loop-again : tie.Need-loop-again Inv-loop μ-loop
 loop-again c =
     let l = c .before .before .loop in
@@ -60,7 +51,6 @@ loop-again c =
     let n : length w ≡ 8 = length-words 8 _ in
     (omega arith, simp length-set (h .1), h .2, fill-step w (l .r) {i = l .i} (omega arith) (omega arith) (h .3) (word-read 8 16 (l .i) (now (c .before .before .before .before .args .b)) (omega arith) (c .number8 .ensures)))
 
--- src/lib.rt:46:1
 returns : tie.Need-returns Inv-loop μ-loop
 returns c =
     let l = c .before .loop in

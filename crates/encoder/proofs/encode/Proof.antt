@@ -9,27 +9,21 @@ use Rattle.encoder.proofs.put_numbers.Reads as put-numbers-reads
 use Rattle.encoder.proofs.put_places.Reads as put-places-reads
 use Rattle.encoder.proofs.put_running.Reads as put-running-reads
 
--- src/lib.rt:236:9
 returns : tie.Need-returns
 returns c = let s = c .before .before in another-size (s .args .s) (now (s .args .out)) (c .if1 .taken)
 
--- src/lib.rt:239:9
 put-numbers-requires : tie.Need-put-numbers-requires
 put-numbers-requires c κs = search needs
 
--- src/lib.rt:240:9
 put-running-requires : tie.Need-put-running-requires
 put-running-requires c κs = search needs
 
--- src/lib.rt:241:5
 put-places-requires : tie.Need-put-places-requires
 put-places-requires c κs = search needs
 
--- src/lib.rt:232:1
 same-length : tie.Need-same-length
 same-length c = search needs
 
--- src/lib.rt:232:1
 returns-2 : tie.Need-returns-2
 returns-2 c =
     let s = c .before .before .before .before .before .before .before .before .before .before .before .before .before .before .before in

@@ -6,39 +6,30 @@ use Rattle.encoder.proofs.le8.Tie as tie
 use Rattle.encoder.proofs.le8.Reads as reads
 use Rattle.encoder.proofs.le8.Lts as lts
 
--- src/number.rt:62:9
 cast-t3 : tie.Need-cast-t3
 cast-t3 c = search needs
 
--- src/number.rt:63:9
 cast-t6 : tie.Need-cast-t6
 cast-t6 c = search needs
 
--- src/number.rt:64:9
 cast-t10 : tie.Need-cast-t10
 cast-t10 c = search needs
 
--- src/number.rt:65:9
 cast-t15 : tie.Need-cast-t15
 cast-t15 c = search needs
 
--- src/number.rt:66:9
 cast-t21 : tie.Need-cast-t21
 cast-t21 c = search needs
 
--- src/number.rt:67:9
 cast-t28 : tie.Need-cast-t28
 cast-t28 c = search needs
 
--- src/number.rt:68:9
 cast-t36 : tie.Need-cast-t36
 cast-t36 c = search needs
 
--- src/number.rt:69:9
 cast-t45 : tie.Need-cast-t45
 cast-t45 c = search needs
 
--- src/number.rt:58:1
 returns : tie.Need-returns
 unfolding le
 returns c = refl

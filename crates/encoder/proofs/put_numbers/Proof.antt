@@ -9,23 +9,18 @@ use Rattle.encoder.proofs.put_numbers.Lts as lts
 use Rattle.buffer.proofs.put.Reads as put-reads
 use Rattle.encoder.proofs.numbers.Reads as numbers-reads
 
--- src/lib.rt:166:16
 numbers-requires : tie.Need-numbers-requires
 numbers-requires c κs = search needs
 
--- src/lib.rt:175:25
 slice-aggregate-put : tie.Need-slice-aggregate-put
 slice-aggregate-put c = search needs
 
--- src/lib.rt:175:5
 put-requires : tie.Need-put-requires
 put-requires c κs = search needs
 
--- src/lib.rt:162:1
 same-length : tie.Need-same-length
 same-length c = search needs
 
--- src/lib.rt:162:1
 returns : tie.Need-returns
 unfolding encodedNumbers
 returns c =

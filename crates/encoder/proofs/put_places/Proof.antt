@@ -8,52 +8,40 @@ use Rattle.encoder.proofs.put_places.Reads as reads
 use Rattle.encoder.proofs.put_places.Lts as lts
 use Rattle.encoder.proofs.put_place.Reads as put-place-reads
 
--- src/lib.rt:196:9
 put-place-requires : tie.Need-put-place-requires
 put-place-requires c κs = search needs
 
--- src/lib.rt:197:9
 put-place-requires-2 : tie.Need-put-place-requires-2
 put-place-requires-2 c κs = search needs
 
--- src/lib.rt:198:9
 put-place-requires-3 : tie.Need-put-place-requires-3
 put-place-requires-3 c κs = search needs
 
--- src/lib.rt:199:9
 put-place-requires-4 : tie.Need-put-place-requires-4
 put-place-requires-4 c κs = search needs
 
--- src/lib.rt:200:9
 put-place-requires-5 : tie.Need-put-place-requires-5
 put-place-requires-5 c κs = search needs
 
--- src/lib.rt:201:9
 put-place-requires-6 : tie.Need-put-place-requires-6
 put-place-requires-6 c κs = search needs
 
--- src/lib.rt:202:9
 put-place-requires-7 : tie.Need-put-place-requires-7
 put-place-requires-7 c κs = search needs
 
--- src/lib.rt:203:9
 put-place-requires-8 : tie.Need-put-place-requires-8
 put-place-requires-8 c κs = search needs
 
--- src/lib.rt:204:9
 put-place-requires-9 : tie.Need-put-place-requires-9
 put-place-requires-9 c κs = search needs
 
--- src/lib.rt:205:5
 put-place-requires-10 : tie.Need-put-place-requires-10
 put-place-requires-10 c κs = search needs
 
--- src/lib.rt:182:1
 same-length : tie.Need-same-length
 same-length c = let s = c .before .before .before .before .before .before .before .before .before .before .before .before .before .before .before .before .before .before .before .before .before .before .before .before .before .before .before .before .before .before .before .before .before .before .before .before .before .before .before .before .before .before .before .before .before .before .before .before .before .before .before in
     over-length (places-over (s .args .at) (now (s .args .out)) _ _ _ _ _ _ _ _ _ _ (s .pre) (c .before .before .before .before .before .before .before .before .before .before .before .before .before .before .before .before .before .before .before .before .before .before .before .before .before .before .before .before .before .before .before .before .before .before .before .before .before .before .put-place .ensures) (c .before .before .before .before .before .before .before .before .before .before .before .before .before .before .before .before .before .before .before .before .before .before .before .before .before .before .before .before .before .before .before .before .before .before .put-place2 .ensures) (c .before .before .before .before .before .before .before .before .before .before .before .before .before .before .before .before .before .before .before .before .before .before .before .before .before .before .before .before .before .before .put-place3 .ensures) (c .before .before .before .before .before .before .before .before .before .before .before .before .before .before .before .before .before .before .before .before .before .before .before .before .before .before .put-place4 .ensures) (c .before .before .before .before .before .before .before .before .before .before .before .before .before .before .before .before .before .before .before .before .before .before .put-place5 .ensures) (c .before .before .before .before .before .before .before .before .before .before .before .before .before .before .before .before .before .before .put-place6 .ensures) (c .before .before .before .before .before .before .before .before .before .before .before .before .before .before .put-place7 .ensures) (c .before .before .before .before .before .before .before .before .before .before .put-place8 .ensures) (c .before .before .before .before .before .before .put-place9 .ensures) (c .before .before .put-place10 .ensures)) (s .pre)
 
--- src/lib.rt:182:1
 returns : tie.Need-returns
 unfolding encodedPlaces
 returns c = let s = c .before .before .before .before .before .before .before .before .before .before .before .before .before .before .before .before .before .before .before .before .before .before .before .before .before .before .before .before .before .before .before .before .before .before .before .before .before .before .before .before .before .before .before .before .before .before .before .before .before .before .before in

@@ -10,31 +10,24 @@ use Rattle.encoder.proofs.put_block.Reads as put-block-reads
 use Rattle.encoder.proofs.put_words.Reads as put-words-reads
 use Rattle.encoder.proofs.le8.Reads as le8-reads
 
--- src/lib.rt:174:17
 le8-requires : tie.Need-le8-requires
 le8-requires c κs = search needs
 
--- src/lib.rt:175:9
 put-words-requires : tie.Need-put-words-requires
 put-words-requires c κs = search needs
 
--- src/lib.rt:176:9
 put-block-requires : tie.Need-put-block-requires
 put-block-requires c κs = search needs
 
--- src/lib.rt:177:25
 slice-aggregate-put : tie.Need-slice-aggregate-put
 slice-aggregate-put c = search needs
 
--- src/lib.rt:177:5
 put-requires : tie.Need-put-requires
 put-requires c κs = search needs
 
--- src/lib.rt:168:1
 same-length : tie.Need-same-length
 same-length c = search needs
 
--- src/lib.rt:168:1
 returns : tie.Need-returns
 returns c =
     let s = c .before .before .before .before .before .before .before .before .before .before .before .before .before .before .before .before .before in

@@ -19,40 +19,31 @@ Inv-loop at out₀ state next₀ i₀ out next i = (i ≤ 8) × (length state �
 abbrev μ-loop : tie.MeasureT-loop
 μ-loop at out₀ state next₀ i₀ out next i = 8 - i
 
--- src/lib.rt:152:5
 loop-holds : tie.Need-loop-holds Inv-loop μ-loop
 unfolding leWords
 loop-holds c = (omega arith, omega arith, c .before .pre, start _ _)
 
--- src/lib.rt:153:21
 mul-le8 : tie.Need-mul-le8 Inv-loop μ-loop
 mul-le8 c = search needs
 
--- src/lib.rt:153:21
 array-read-le8 : tie.Need-array-read-le8 Inv-loop μ-loop
 array-read-le8 c = search needs
 
--- src/lib.rt:153:17
 le8-requires : tie.Need-le8-requires Inv-loop μ-loop
 le8-requires c κs = search needs
 
--- src/lib.rt:154:40
 slice-aggregate-put : tie.Need-slice-aggregate-put Inv-loop μ-loop
 slice-aggregate-put c = search needs
 
--- src/lib.rt:154:13
 put-requires : tie.Need-put-requires Inv-loop μ-loop
 put-requires c κs = search needs
 
--- src/lib.rt:156:9
 add-i : tie.Need-add-i Inv-loop μ-loop
 add-i c = search needs
 
--- src/lib.rt:152:5
 loop-less : tie.Need-loop-less Inv-loop μ-loop
 loop-less c = search needs
 
--- src/lib.rt:152:5
 loop-again : tie.Need-loop-again Inv-loop μ-loop
 loop-again c =
     let l = c .before .before .before .before .before .before .before .loop in
@@ -60,11 +51,9 @@ loop-again c =
     let p = c .before .before .put .ensures in
     (omega arith, h .1, h .2, word-more _ _ _ _ _ (omega arith) (h .1) (h .2) (h .3) (c .before .before .before .before .before .le8 .ensures) (p .0) (p .1))
 
--- src/lib.rt:146:1
 same-length : tie.Need-same-length Inv-loop μ-loop
 same-length c = let l = c .before .loop in over-length (l .inv .3) (omega arith)
 
--- src/lib.rt:146:1
 returns : tie.Need-returns Inv-loop μ-loop
 returns c = let l = c .before .loop in words-done _ _ _ (l .i) (l .inv .1) (omega arith) (l .inv .3)
 

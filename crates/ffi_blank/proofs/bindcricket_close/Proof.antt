@@ -12,27 +12,21 @@ use Rattle.decoder.proofs.decode.Reads as decode-reads
 use Rattle.lent.proofs.store.Reads as store-reads
 use Rattle.session.proofs.close.close.Reads as close-reads
 
--- src/lib.rt:136:9
 returns : tie.Need-returns
 returns c = let s = c .before .before in wrong-size (now (s .args .session)) Close [] (c .if1 .taken)
 
--- src/lib.rt:138:22
 decode-requires : tie.Need-decode-requires
 decode-requires c κs = search needs
 
--- src/lib.rt:138:9
 close-requires : tie.Need-close-requires
 close-requires c κs = search needs
 
--- src/lib.rt:139:5
 store-requires : tie.Need-store-requires
 store-requires c κs = search needs
 
--- src/lib.rt:131:1
 same-length : tie.Need-same-length
 same-length c = search needs
 
--- src/lib.rt:131:1
 returns-2 : tie.Need-returns-2
 returns-2 c =
     let s = c .before .before .before .before .before .before .before .before .before in

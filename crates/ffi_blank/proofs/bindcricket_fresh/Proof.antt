@@ -8,23 +8,18 @@ use Rattle.ffi_blank.proofs.bindcricket_fresh.Lts as lts
 use Rattle.encoder.proofs.encode.Reads as encode-reads
 use Rattle.session.proofs.fresh.Reads as fresh-reads
 
--- src/lib.rt:48:9
 returns : tie.Need-returns
 returns c = not-fresh (now (c .before .before .args .session)) (c .if1 .taken)
 
--- src/lib.rt:50:12
 fresh-requires : tie.Need-fresh-requires
 fresh-requires c κs = search needs
 
--- src/lib.rt:50:5
 encode-requires : tie.Need-encode-requires
 encode-requires c κs = search needs
 
--- src/lib.rt:43:1
 same-length : tie.Need-same-length
 same-length c = search needs
 
--- src/lib.rt:43:1
 returns-2 : tie.Need-returns-2
 returns-2 c = freshly (now (c .before .before .before .before .before .before .before .args .session)) (c .before .before .before .before .before .if1 .left) (c .before .before .before .before .fresh .ensures) (c .before .before .encode .ensures)
 

@@ -8,23 +8,18 @@ use Rattle.lent.proofs.store.Lts as lts
 use Rattle.encoder.proofs.encode.Reads as encode-reads
 use Rattle.refusal.proofs.Answer.number.Reads as number-reads
 
--- src/lib.rt:33:9
 number-requires : tie.Need-number-requires
 number-requires c κs = search needs
 
--- src/lib.rt:35:9
 returns : tie.Need-returns
 returns c = (c .before .number .ensures, rw (ne-eqb _ _ (c .if1 .taken)) refl)
 
--- src/lib.rt:38:5
 encode-requires : tie.Need-encode-requires
 encode-requires c κs = search needs
 
--- src/lib.rt:29:1
 same-length : tie.Need-same-length
 same-length c = search needs
 
--- src/lib.rt:29:1
 returns-2 : tie.Need-returns-2
 returns-2 c = (c .before .before .before .before .before .before .number .ensures, rw (eq-eqb _ _ (c .before .before .before .before .before .if1 .left)) (c .before .before .encode .ensures))
 

@@ -8,35 +8,27 @@ use Rattle.decoder.proofs.number.number2.Reads as reads
 use Rattle.decoder.proofs.number.number2.Lts as lts
 use Rattle.decoder.proofs.number.wide16.Reads as wide16-reads
 
--- src/number.rt:31:12
 shared-slice-read-wide16 : tie.Need-shared-slice-read-wide16
 shared-slice-read-wide16 c = search needs
 
--- src/number.rt:31:5
 wide16-requires : tie.Need-wide16-requires
 wide16-requires c κs = search needs
 
--- src/number.rt:31:36
 add-wide16 : tie.Need-add-wide16
 add-wide16 c = search needs
 
--- src/number.rt:31:34
 shared-slice-read-wide16-2 : tie.Need-shared-slice-read-wide16-2
 shared-slice-read-wide16-2 c = search needs
 
--- src/number.rt:31:27
 wide16-requires-2 : tie.Need-wide16-requires-2
 wide16-requires-2 c κs = search needs
 
--- src/number.rt:31:21
 mul-result : tie.Need-mul-result
 mul-result c = search needs
 
--- src/number.rt:31:5
 add-result : tie.Need-add-result
 add-result c = search needs
 
--- src/number.rt:27:1
 returns : tie.Need-returns
 returns c = let s = c .before .before .before .before .before in
     omega (arith, number-2 (now (s .args .b)) (s .args .at) (s .pre))

@@ -9,35 +9,27 @@ use Rattle.decoder.proofs.number.number4.Lts as lts
 use Rattle.decoder.proofs.number.number2.Reads as number2-reads
 use Rattle.decoder.proofs.number.wide32.Reads as wide32-reads
 
--- src/number.rt:38:12
 number2-requires : tie.Need-number2-requires
 number2-requires c κs = search needs
 
--- src/number.rt:38:5
 wide32-requires : tie.Need-wide32-requires
 wide32-requires c κs = search needs
 
--- src/number.rt:38:56
 add-number2 : tie.Need-add-number2
 add-number2 c = search needs
 
--- src/number.rt:38:45
 number2-requires-2 : tie.Need-number2-requires-2
 number2-requires-2 c κs = search needs
 
--- src/number.rt:38:38
 wide32-requires-2 : tie.Need-wide32-requires-2
 wide32-requires-2 c κs = search needs
 
--- src/number.rt:38:30
 mul-result : tie.Need-mul-result
 mul-result c = search needs
 
--- src/number.rt:38:5
 add-result : tie.Need-add-result
 add-result c = search needs
 
--- src/number.rt:34:1
 returns : tie.Need-returns
 returns c = let s = c .before .before .before .before .before in
     omega (arith, number-4 (now (s .args .b)) (s .args .at) (s .pre))

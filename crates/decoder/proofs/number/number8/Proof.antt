@@ -9,35 +9,27 @@ use Rattle.decoder.proofs.number.number8.Lts as lts
 use Rattle.decoder.proofs.number.number4.Reads as number4-reads
 use Rattle.decoder.proofs.number.wide64.Reads as wide64-reads
 
--- src/number.rt:45:12
 number4-requires : tie.Need-number4-requires
 number4-requires c κs = search needs
 
--- src/number.rt:45:5
 wide64-requires : tie.Need-wide64-requires
 wide64-requires c κs = search needs
 
--- src/number.rt:45:61
 add-number4 : tie.Need-add-number4
 add-number4 c = search needs
 
--- src/number.rt:45:50
 number4-requires-2 : tie.Need-number4-requires-2
 number4-requires-2 c κs = search needs
 
--- src/number.rt:45:43
 wide64-requires-2 : tie.Need-wide64-requires-2
 wide64-requires-2 c κs = search needs
 
--- src/number.rt:45:30
 mul-result : tie.Need-mul-result
 mul-result c = search needs
 
--- src/number.rt:45:5
 add-result : tie.Need-add-result
 add-result c = search needs
 
--- src/number.rt:41:1
 returns : tie.Need-returns
 returns c = let s = c .before .before .before .before .before in
     omega (arith, number-8 (now (s .args .b)) (s .args .at) (s .pre))

@@ -12,27 +12,21 @@ use Rattle.decoder.proofs.decode.Reads as decode-reads
 use Rattle.lent.proofs.store.Reads as store-reads
 use Rattle.opening_stage.proofs.begin.Reads as begin-reads
 
--- src/changing.rt:59:9
 returns : tie.Need-returns
 returns c = let s = c .before .before .before in wrong-size (now (s .args .session)) (Begin _ _ (now (s .args .psk))) [] (c .if1 .taken)
 
--- src/changing.rt:61:22
 decode-requires : tie.Need-decode-requires
 decode-requires c κs = search needs
 
--- src/changing.rt:61:9
 begin-requires : tie.Need-begin-requires
 begin-requires c κs = search needs
 
--- src/changing.rt:62:5
 store-requires : tie.Need-store-requires
 store-requires c κs = search needs
 
--- src/changing.rt:54:1
 same-length : tie.Need-same-length
 same-length c = search needs
 
--- src/changing.rt:54:1
 returns-2 : tie.Need-returns-2
 returns-2 c =
     let s = c .before .before .before .before .before .before .before .before .before .before in

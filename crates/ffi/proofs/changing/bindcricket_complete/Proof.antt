@@ -12,27 +12,21 @@ use Rattle.complete_stage.proofs.complete.complete.Reads as complete-reads
 use Rattle.decoder.proofs.decode.Reads as decode-reads
 use Rattle.lent.proofs.store.Reads as store-reads
 
--- src/changing.rt:114:9
 returns : tie.Need-returns
 returns c = let s = c .before .before in wrong-size (now (s .args .session)) Complete [] (c .if1 .taken)
 
--- src/changing.rt:116:25
 decode-requires : tie.Need-decode-requires
 decode-requires c κs = search needs
 
--- src/changing.rt:116:9
 complete-requires : tie.Need-complete-requires
 complete-requires c κs = search needs
 
--- src/changing.rt:117:5
 store-requires : tie.Need-store-requires
 store-requires c κs = search needs
 
--- src/changing.rt:109:1
 same-length : tie.Need-same-length
 same-length c = search needs
 
--- src/changing.rt:109:1
 returns-2 : tie.Need-returns-2
 returns-2 c =
     let s = c .before .before .before .before .before .before .before .before .before in

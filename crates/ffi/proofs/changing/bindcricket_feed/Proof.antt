@@ -12,27 +12,21 @@ use Rattle.decoder.proofs.decode.Reads as decode-reads
 use Rattle.lent.proofs.store.Reads as store-reads
 use Rattle.feeding.proofs.feed.Reads as feed-reads
 
--- src/changing.rt:70:9
 returns : tie.Need-returns
 returns c = let s = c .before .before .before in wrong-size (now (s .args .session)) (Feed (now (s .args .message))) [] (c .if1 .taken)
 
--- src/changing.rt:72:21
 decode-requires : tie.Need-decode-requires
 decode-requires c κs = search needs
 
--- src/changing.rt:72:9
 feed-requires : tie.Need-feed-requires
 feed-requires c κs = search needs
 
--- src/changing.rt:73:5
 store-requires : tie.Need-store-requires
 store-requires c κs = search needs
 
--- src/changing.rt:65:1
 same-length : tie.Need-same-length
 same-length c = search needs
 
--- src/changing.rt:65:1
 returns-2 : tie.Need-returns-2
 returns-2 c =
     let s = c .before .before .before .before .before .before .before .before .before .before in

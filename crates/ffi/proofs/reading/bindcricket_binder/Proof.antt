@@ -12,27 +12,21 @@ use Rattle.decoder.proofs.decode.Reads as decode-reads
 use Rattle.finished.proofs.binder.binder.Reads as binder-reads
 use Rattle.ffi.proofs.report.report.Reads as report-reads
 
--- src/reading.rt:61:9
 returns : tie.Need-returns
 returns c = let s = c .before .before .before .before in wrong-size (now (s .args .session)) (Binder (now (s .args .hello)) (now (s .args .out))) (now (s .args .out)) (c .if1 .taken)
 
--- src/reading.rt:63:25
 decode-requires : tie.Need-decode-requires
 decode-requires c κs = search needs
 
--- src/reading.rt:63:9
 binder-requires : tie.Need-binder-requires
 binder-requires c κs = search needs
 
--- src/reading.rt:65:5
 report-requires : tie.Need-report-requires
 report-requires c κs = search needs
 
--- src/reading.rt:50:1
 same-length : tie.Need-same-length
 same-length c = search needs
 
--- src/reading.rt:50:1
 returns-2 : tie.Need-returns-2
 returns-2 c =
     let s = c .before .before .before .before .before .before .before .before .before .before .before in

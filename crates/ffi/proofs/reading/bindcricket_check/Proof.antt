@@ -18,31 +18,24 @@ use Rattle.finished.proofs.check.check.Reads as check-reads
 use Rattle.refusal.proofs.verdict.Verdict.is_yes.Reads as is-yes-reads
 use Rattle.refusal.proofs.verdict.Verdict.number.Reads as number-reads
 
--- src/reading.rt:96:9
 returns : tie.Need-returns
 returns c = let s = c .before .before .before in wrong-size (now (s .args .session)) (Check _ (now (s .args .received))) [] (c .if1 .taken)
 
--- src/reading.rt:98:25
 decode-requires : tie.Need-decode-requires
 decode-requires c κs = search needs
 
--- src/reading.rt:98:9
 check-requires : tie.Need-check-requires
 check-requires c κs = search needs
 
--- src/reading.rt:99:12
 is-yes-requires : tie.Need-is-yes-requires
 is-yes-requires c κs = search needs
 
--- src/reading.rt:99:12
 cast-yes : tie.Need-cast-yes
 cast-yes c = search needs
 
--- src/reading.rt:100:5
 number-requires : tie.Need-number-requires
 number-requires c κs = search needs
 
--- src/reading.rt:90:1
 told : (b : Bool) {d : Bool} → b ≡ d → boolByte b ≡ cond d 1 0
 told true e = ap (λ (x : Bool). cond x 1 0) e
 told false e = ap (λ (x : Bool). cond x 1 0) e

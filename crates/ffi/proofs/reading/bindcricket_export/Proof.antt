@@ -12,27 +12,21 @@ use Rattle.decoder.proofs.decode.Reads as decode-reads
 use Rattle.outputs.proofs.export.export.Reads as export-reads
 use Rattle.ffi.proofs.report.report.Reads as report-reads
 
--- src/reading.rt:82:9
 returns : tie.Need-returns
 returns c = let s = c .before .before .before .before .before in wrong-size (now (s .args .session)) (Export _ (now (s .args .label)) (now (s .args .context)) _ (now (s .args .out))) (now (s .args .out)) (c .if1 .taken)
 
--- src/reading.rt:84:25
 decode-requires : tie.Need-decode-requires
 decode-requires c κs = search needs
 
--- src/reading.rt:84:9
 export-requires : tie.Need-export-requires
 export-requires c κs = search needs
 
--- src/reading.rt:86:5
 report-requires : tie.Need-report-requires
 report-requires c κs = search needs
 
--- src/reading.rt:68:1
 same-length : tie.Need-same-length
 same-length c = search needs
 
--- src/reading.rt:68:1
 returns-2 : tie.Need-returns-2
 returns-2 c =
     let s = c .before .before .before .before .before .before .before .before .before .before .before .before in

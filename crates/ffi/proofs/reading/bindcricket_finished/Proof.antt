@@ -12,27 +12,21 @@ use Rattle.decoder.proofs.decode.Reads as decode-reads
 use Rattle.finished.proofs.finished.finished.Reads as finished-reads
 use Rattle.ffi.proofs.report.report.Reads as report-reads
 
--- src/reading.rt:43:9
 returns : tie.Need-returns
 returns c = let s = c .before .before .before in wrong-size (now (s .args .session)) (Finished _ (now (s .args .out))) (now (s .args .out)) (c .if1 .taken)
 
--- src/reading.rt:45:27
 decode-requires : tie.Need-decode-requires
 decode-requires c κs = search needs
 
--- src/reading.rt:45:9
 finished-requires : tie.Need-finished-requires
 finished-requires c κs = search needs
 
--- src/reading.rt:47:5
 report-requires : tie.Need-report-requires
 report-requires c κs = search needs
 
--- src/reading.rt:32:1
 same-length : tie.Need-same-length
 same-length c = search needs
 
--- src/reading.rt:32:1
 returns-2 : tie.Need-returns-2
 returns-2 c =
     let s = c .before .before .before .before .before .before .before .before .before .before in

@@ -12,27 +12,21 @@ use Rattle.decoder.proofs.decode.Reads as decode-reads
 use Rattle.outputs.proofs.keys.keys.Reads as keys-reads
 use Rattle.ffi.proofs.report.report.Reads as report-reads
 
--- src/reading.rt:25:9
 returns : tie.Need-returns
 returns c = let s = c .before .before .before in wrong-size (now (s .args .session)) (Keys _ (now (s .args .out))) (now (s .args .out)) (c .if1 .taken)
 
--- src/reading.rt:27:23
 decode-requires : tie.Need-decode-requires
 decode-requires c κs = search needs
 
--- src/reading.rt:27:9
 keys-requires : tie.Need-keys-requires
 keys-requires c κs = search needs
 
--- src/reading.rt:29:5
 report-requires : tie.Need-report-requires
 report-requires c κs = search needs
 
--- src/reading.rt:14:1
 same-length : tie.Need-same-length
 same-length c = search needs
 
--- src/reading.rt:14:1
 returns-2 : tie.Need-returns-2
 returns-2 c =
     let s = c .before .before .before .before .before .before .before .before .before .before in
