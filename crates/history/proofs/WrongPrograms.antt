@@ -18,7 +18,7 @@ use Rattle.session.specs.Promise.{Reply}
 use Rattle.book.proofs.Accepted.{next-accepted}
 use Rattle.session.proofs.Fields.{chain-is}
 use Rattle.book.proofs.Moves.{begin-accepted}
-use Rattle.session.proofs.Steps.{begun-chain}
+use Rattle.opening_stage.proofs.Step.{begun-chain}
 use Rattle.history.specs.Places.{Place, lies, value, kindOf, sets, zeroes, held}
 use Rattle.history.specs.Places.Place.{chain}
 use Rattle.history.specs.Histories.{Event, Run, calls, givens, kept, allAccepted, bookAfter, replies, freshSession, bookOf}

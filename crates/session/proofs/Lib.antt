@@ -2,4 +2,4 @@ pub mod Calls
 pub mod Decisions
 pub mod Fields
 pub mod Secrets
-pub mod Steps
+pub mod Step

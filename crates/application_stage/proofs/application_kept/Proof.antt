@@ -1,6 +1,6 @@
 use Rattle.book.proofs.Books.{good}
 use Rattle.session.proofs.Decisions.{application-taken}
-use Rattle.session.proofs.Steps.{applied}
+use Rattle.application_stage.proofs.Step.{applied}
 use Rattle.application_stage.proofs.application_kept.Statement.{statement}
 use Rattle.application_stage.proofs.application_kept.Tie as tie
 

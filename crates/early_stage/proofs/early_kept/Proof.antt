@@ -1,6 +1,6 @@
 use Rattle.book.proofs.Books.{good}
 use Rattle.session.proofs.Decisions.{early-taken}
-use Rattle.session.proofs.Steps.{earlied}
+use Rattle.early_stage.proofs.Step.{earlied}
 use Rattle.early_stage.proofs.early_kept.Statement.{statement}
 use Rattle.early_stage.proofs.early_kept.Tie as tie
 

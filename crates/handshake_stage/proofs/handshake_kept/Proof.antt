@@ -1,7 +1,7 @@
 use borrow.Author.Needs.{needs}
 use Rattle.book.proofs.Books.{good}
 use Rattle.session.proofs.Decisions.{handshake-taken}
-use Rattle.session.proofs.Steps.{shaken}
+use Rattle.handshake_stage.proofs.Step.{shaken}
 use Rattle.handshake_stage.proofs.handshake_kept.Statement.{statement}
 use Rattle.handshake_stage.proofs.handshake_kept.Tie as tie
 

@@ -8,7 +8,7 @@ use Rattle.session.specs.Values.{written, verdict}
 use Rattle.book.proofs.Accepted.{begin-small}
 use Rattle.session.proofs.Calls.{refused-by, accepted-plain}
 use Rattle.session.proofs.Decisions.{begin-is, begin-taken}
-use Rattle.session.proofs.Steps.{begun}
+use Rattle.opening_stage.proofs.Step.{begun}
 use Rattle.opening_stage.proofs.begin.Statement.{statement}
 use Rattle.opening_stage.proofs.begin.Tie as tie
 

@@ -7,7 +7,7 @@ use Rattle.book.specs.Call.{lent}
 use Rattle.session.specs.Values.{written, verdict}
 use Rattle.book.proofs.Accepted.{complete-small}
 use Rattle.book.proofs.Books.{good}
-use Rattle.session.proofs.Steps.{completed}
+use Rattle.complete_stage.proofs.CompleteStep.{completed}
 use Rattle.session.proofs.Calls.{end-refused, end-accepted}
 use Rattle.session.proofs.Decisions.{complete-is, complete-taken}
 use Rattle.complete_stage.proofs.complete.complete.Statement.{statement}

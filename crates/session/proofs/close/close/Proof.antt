@@ -5,7 +5,7 @@ use Rattle.book.specs.Call.{lent}
 use Rattle.book.specs.Refusals.{number}
 use Rattle.session.specs.Values.{written, verdict}
 use Rattle.session.proofs.Calls.{accepted-plain}
-use Rattle.session.proofs.Steps.{closed}
+use Rattle.session.proofs.Step.{closed}
 use Rattle.session.proofs.close.close.Statement.{statement}
 use Rattle.session.proofs.close.close.Tie as tie
 

@@ -1,0 +1,2 @@
+pub mod CompleteStep
+pub mod UpdateStep
