@@ -1,15 +1,16 @@
 -- The session after an accepted Complete is that of the book with it noted.
 use Prim.Native.Nat.{ℕ}
-use mathlib.Core.Bool.{Bool, true, false, cond, _&&_}
+use mathlib.Core.Bool.{Bool, false, cond, _&&_}
 use mathlib.Core.List.{List}
-use mathlib.Core.Path.{_≡_, refl, sym, _∙_}
+use mathlib.Core.Path.{_≡_, refl, sym, ap, _∙_}
 use lib.Dec.{eqb}
 use lib.ListN.{take}
 use Rattle.buffer.specs.Buffer.{zeros, placed}
+use Rattle.refusal.proofs.Laws.{and-false}
 use Rattle.suite.specs.Suite.{hashLen}
 use Rattle.sha2.specs.Variants.{variantOf}
 use Rattle.sha2.specs.Running.{finished}
-use Rattle.schedule.specs.Labels.Secret.{client-early, early-exporter, resumption}
+use Rattle.schedule.specs.Labels.Secret.{resumption}
 use Rattle.schedule.specs.Diagram.{from, until}
 use Rattle.schedule.specs.Schedule.{fromHash}
 use Rattle.session.specs.declared.Session.{Session}
@@ -20,10 +21,6 @@ use Rattle.session.specs.Session.{sessionOf}
 use Rattle.book.proofs.Books.{Good}
 use Rattle.session.proofs.Secrets.{hash-of, derived-place, master-of}
 use Rattle.session.proofs.Fields.{same-session, suite-is, kind-is, ran-is, stage-is, client-updates-is, server-updates-is, transcript-at, chain-at, binder-key-at, client-application-at, server-application-at, exporter-at}
-
-never : (t : Bool) (v w : List ℕ) → cond (t && false) v w ≡ w
-never true v w = refl
-never false v w = refl
 
 pub completed : (b : Book) (s : Session) {d made none : List ℕ} → Good b → b .point ≡ 3 → s ≡ sessionOf b
     → d ≡ finished (variantOf (s .suite)) (s .transcript)
@@ -55,10 +52,8 @@ unfolding sessionOf note secretOf from until chainOf earlySecretOf handshakeSecr
 completed b s {none = none} g p e ed em en =
     let h = hash-of s b 3 e p refl (g .fed) ed in
     let all = g .client p .0 in
-    let zero : none ≡ cond (eqb (b .ran) 1 && false) (placed (secretOf client-early b)) (zeros 48) = en ∙ sym
-    (never (eqb (b .ran) 1) _ _) in
-    let zero2 : none ≡ cond (eqb (b .ran) 1 && false) (placed (secretOf early-exporter b)) (zeros 48) = en ∙ sym
-    (never (eqb (b .ran) 1) _ _) in
+    let cleared : (v : List ℕ) → none ≡ cond (eqb (b .ran) 1 && false) v (zeros 48) = λ v. en ∙ ap
+    (λ (t : Bool). cond t v (zeros 48)) (sym (and-false (eqb (b .ran) 1))) in
     same-session
     (suite-is s b e)
     (kind-is s b e)
@@ -70,8 +65,8 @@ completed b s {none = none} g p e ed em en =
     (transcript-at s b 3 e p)
     en
     (binder-key-at s b 3 e p)
-    zero
-    zero2
+    (cleared _)
+    (cleared _)
     en
     en
     (client-application-at s b 3 e p)

@@ -5,6 +5,7 @@ use mathlib.Core.List.{List, [], _∷_}
 use mathlib.Core.Path.{_≡_, refl, ap, sym, _∙_}
 use lib.Dec.{eqb}
 use borrow.Author.Tests.{eqb-true}
+use Rattle.refusal.proofs.Laws.{and-false}
 use Rattle.book.specs.Call.{Call}
 use Rattle.book.specs.Call.Call.{Begin, Feed, Early, Handshake, Application, Complete, Update, Close, Keys, Finished, Check, Binder, Export}
 use Rattle.book.specs.Book.{Book}
@@ -51,10 +52,6 @@ lies-by exporter b = exporter-is b
 lies-by resumption b = resumption-is b
 
 -- An accepted call changes that as the table says.
-and-false : (a : Bool) → (a && false) ≡ false
-and-false true = refl
-and-false false = refl
-
 set-itself : (t : Bool) → cond t true false ≡ t
 set-itself true = refl
 set-itself false = refl
