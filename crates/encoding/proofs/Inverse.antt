@@ -6,11 +6,12 @@ use native.Mathlib.Nat.{pow-suc}
 use native.Mathlib.Omega.{arith}
 use lib.ListN.{length, getD, take, drop, length-append}
 use lib.Seq.{take-at, drop-at, drop-drop, take-all, take-add}
+use Rattle.buffer.specs.Buffer.{Bytes}
 use Rattle.sha2.specs.declared.running.Running.{Running}
 use Rattle.session.specs.declared.Session.{Session}
 use Rattle.encoding.specs.Numbers.{le, number, leWords, words}
 use Rattle.encoding.specs.Encoding.{sessionBytes, part, encodedNumbers, encodedRunning, encodedPlaces, encoded, decodedRunning, decoded}
-use Rattle.encoding.specs.Inverse.{Bytes, SessionFits, DecodesWhatItEncodes, EncodesWhatItDecodes}
+use Rattle.encoding.specs.Inverse.{SessionFits, DecodesWhatItEncodes, EncodesWhatItDecodes}
 use Rattle.encoding.proofs.Numbers.{part-cons, length-le, length-leWords, length-numbers}
 
 -- the bytes of the number that bytes stand for are those bytes

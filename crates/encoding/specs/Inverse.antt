@@ -3,13 +3,10 @@ use Prim.Native.Nat.{ℕ, _<_, _^_}
 use mathlib.Core.Path.{_≡_}
 use mathlib.Core.List.{List}
 use lib.ListN.{length, getD}
+use Rattle.buffer.specs.Buffer.{Bytes}
 use Rattle.sha2.specs.declared.running.Running.{Running}
 use Rattle.session.specs.declared.Session.{Session}
 use Rattle.encoding.specs.Encoding.{sessionBytes, encoded, decoded}
-
--- a list of bytes
-abbrev pub Bytes : List ℕ → Type 0
-Bytes bs = (i : ℕ) → getD bs i 0 < 256
 
 -- What every session record of the code has: each number fits its field, and each array has its length.
 pub record RunningFits (h : Running) : Type 0 where

@@ -5,6 +5,7 @@ use mathlib.Core.Path.{_≡_, refl, _∙_}
 use mathlib.Core.List.{List, []}
 use lib.ListN.{length}
 use lib.Dec.{eqb}
+use Rattle.buffer.specs.Buffer.{Bytes}
 use Rattle.refusal.specs.declared.Answer.{Answer}
 use Rattle.refusal.specs.declared.verdict.Verdict.{Verdict}
 use Rattle.refusal.specs.Refusal as Refusal
@@ -18,7 +19,6 @@ use Rattle.session.specs.Session.{sessionOf}
 use Rattle.session.specs.Promise.{Done, wrote}
 use Rattle.outputs.specs.Verdict.{judged}
 use Rattle.encoding.specs.Encoding.{sessionBytes, decoded}
-use Rattle.encoding.specs.Inverse.{Bytes}
 use Rattle.lent.specs.Called.{Called, counted, judging}
 use Rattle.lent.proofs.Calls.{reading}
 

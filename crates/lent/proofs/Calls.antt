@@ -7,7 +7,7 @@ use native.Mathlib.Omega.{arith}
 use lib.ListN.{length, drop}
 use lib.Dec.{eqb}
 use borrow.Author.Tests.{eq-eqb, ne-eqb, eqb-false}
-use Rattle.buffer.specs.Buffer.{fronted}
+use Rattle.buffer.specs.Buffer.{Bytes, fronted}
 use Rattle.refusal.specs.Refusal as Refusal
 use Rattle.book.specs.Call.{Call, lent}
 use Rattle.book.specs.Book.{Book, blankAt, fresh, note}
@@ -19,7 +19,6 @@ use Rattle.session.specs.Values.{written, verdict}
 use Rattle.session.specs.Promise.{Reply, Done, plain}
 use Rattle.session.proofs.Calls.{refused, accepted}
 use Rattle.encoding.specs.Encoding.{sessionBytes, encoded, decoded}
-use Rattle.encoding.specs.Inverse.{Bytes}
 use Rattle.lent.specs.Called.{Called, notASession, numbered, counted}
 use Rattle.encoding.proofs.Inverse.{encodes-what-it-decodes}
 
