@@ -1,5 +1,5 @@
 -- Document 01, "Refusal numbers": when a session call is refused, by its inputs and the book, call by call as the code decides
--- it (`numbers` beside each call). Table says the same row by row.
+-- it (`x_number` beside the call x). Table says the same row by row.
 use Prim.Native.Nat.{ℕ, _+_, _*_}
 use mathlib.Core.Bool.{Bool, cond, not, _&&_, _||_}
 use mathlib.Core.List.{List}

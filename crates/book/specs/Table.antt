@@ -1,6 +1,6 @@
 -- Document 01, "Refusal numbers": the table row by row, each as a test of the book and the call. Row 13 is the journal's.
 use Prim.Native.Nat.{ℕ, _+_}
-use mathlib.Core.Bool.{Bool, false, cond, not, _&&_, _||_}
+use mathlib.Core.Bool.{Bool, true, false, cond, not, _&&_, _||_}
 use mathlib.Core.List.{List, [], _∷_}
 use mathlib.Core.Path.{_≡_}
 use lib.ListN.{length}
@@ -125,6 +125,15 @@ unfoldable pub first : List Row → Book → Call → ℕ
 first [] b c = 0
 first (r ∷ rest) b c = cond (r .applies b c) (r .number) (first rest b c)
 
--- The numbers are the table's.
+-- whether none applies
+unfoldable pub none : List Row → Book → Call → Bool
+none [] b c = true
+none (r ∷ rest) b c = not (r .applies b c) && none rest b c
+
+-- The numbers are the table's,
 abbrev pub ByTheTable : Type 0
 ByTheTable = (b : Book) (c : Call) → number b c ≡ first rows b c
+
+-- and 0 exactly if no row applies.
+abbrev pub DoneIfNone : Type 0
+DoneIfNone = (b : Book) (c : Call) → eqb (number b c) 0 ≡ none rows b c
