@@ -85,14 +85,14 @@ start list old s e =
     }
 
 -- the list goes on with the record at index at, or ends there
-more-by : (n : ℕ) (list old : List ℕ) (at used : ℕ) {h : Header} → h ≡ headerAt list at
+pub more-by : (n : ℕ) (list old : List ℕ) (at used : ℕ) {h : Header} → h ≡ headerAt list at
     → fits h (length list) (length old) at used ≡ true
     → decodedFrom (suc n) list old at used
     ≡ callAt h list old at used ∷ decodedFrom n list old (at + 20 + h .first + h .second) (used + h .room)
 unfolding decodedFrom
 more-by n list old at used e f = rw (sym e, f)
 
-none-by : (n : ℕ) (list old : List ℕ) (at used : ℕ) → fits (headerAt list at) (length list) (length old) at used ≡ false
+pub none-by : (n : ℕ) (list old : List ℕ) (at used : ℕ) → fits (headerAt list at) (length list) (length old) at used ≡ false
     → decodedFrom n list old at used ≡ []
 unfolding decodedFrom
 none-by zero list old at used f = refl
