@@ -8,10 +8,11 @@ use Rattle.book.specs.Book.{Book, blankAt, fresh}
 use Rattle.book.specs.Refusals.Reached.{start}
 use Rattle.session.specs.Session.{place, sessionOf}
 use Rattle.history.specs.Places.{Place, lies, value, held, keysPlace, exportPlace}
+use Rattle.history.specs.Places.Place.{binder-key}
 use Rattle.history.specs.Histories.{Event, Run, calls, givens, kept, bookAfter, replies, freshSession, bookOf, heldAfter, Demand3}
 use Rattle.history.proofs.Runs.{same-events, run-session, run-answers, kept-book, kept-answers, kept-accepted, kept-run}
 use Rattle.history.proofs.Held.{heldBy, lies-by, fresh-held, held-along}
-use Rattle.history.proofs.Named.{keys-held, export-held}
+use Rattle.history.proofs.Named.{keys-held, export-held, binder-held}
 
 pub demand3 : Demand3
 demand3 events s run =
@@ -23,6 +24,7 @@ demand3 events s run =
       places = λ p. ap (lies p) ends-as ∙ lies-by p book ∙ ap (λ (t : Bool). place t (value p book)) (by-table p);
       keys = λ name h k. keys-held (book .point) (book .kind) (book .ran) name h k ∙ by-table (keysPlace name);
       exports = λ name h k. export-held (book .point) (book .kind) (book .ran) name h k ∙ by-table (exportPlace name);
+      binders = λ e. binder-held (book .point) (book .kind) (book .ran) e ∙ by-table binder-key;
     }
   where
     book : Book

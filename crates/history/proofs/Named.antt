@@ -1,11 +1,14 @@
--- The tests of refusal 3 are those of the places that Keys and Export name.
+-- The tests of refusal 3 are those of the places that Keys and Export name, and of the binder key.
 use Prim.Native.Nat.{ℕ, zero, suc, _≤_}
-use mathlib.Core.Bool.{Bool, true, false, _||_}
+use mathlib.Core.Bool.{Bool, true, false, not, _||_}
 use mathlib.Core.Path.{_≡_, refl}
 use native.Mathlib.Omega.{arith}
+use lib.Dec.{eqb}
+use Rattle.book.specs.Book.{early}
 use Rattle.book.specs.Held.{earlyHeld, handshakeHeld}
 use Rattle.book.specs.Refusals.{keysHeld, exportHeld}
 use Rattle.history.specs.Places.{keysPlace, exportPlace}
+use Rattle.history.specs.Places.Place.{binder-key}
 use Rattle.history.proofs.Held.{heldAt}
 
 or-nothing : (a : Bool) → (a || false) ≡ a
@@ -29,3 +32,7 @@ module _ (point kind ran : ℕ) where
   export-held (suc zero) h k = or-nothing (earlyHeld point ran)
   export-held (suc (suc zero)) h k = refl
   export-held (suc (suc (suc n))) h k = absurd (omega arith)
+
+  pub binder-held : point ≡ early → not (eqb kind 0) ≡ heldAt binder-key point kind ran
+  unfolding heldAt
+  binder-held e = rw e

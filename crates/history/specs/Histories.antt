@@ -1,16 +1,17 @@
 -- Demand 3: what every list of calls from a fresh session gives.
 use Prim.Native.Nat.{ℕ, _≤_}
-use mathlib.Core.Bool.{Bool, true, false, cond, _&&_}
+use mathlib.Core.Bool.{Bool, true, false, cond, not, _&&_}
 use mathlib.Core.List.{List, [], _∷_}
 use mathlib.Core.Path.{_≡_}
 use lib.Dec.{eqb}
 use Rattle.session.specs.declared.Session.{Session}
 use Rattle.book.specs.Call.{Call}
-use Rattle.book.specs.Book.{Book, blankAt, fresh}
+use Rattle.book.specs.Book.{Book, blankAt, fresh, early}
 use Rattle.book.specs.Refusals.{next, keysHeld, exportHeld}
 use Rattle.session.specs.Session.{place, sessionOf}
 use Rattle.session.specs.Promise.{Reply, reply, Done}
 use Rattle.history.specs.Places.{Place, lies, value, held, keysPlace, exportPlace}
+use Rattle.history.specs.Places.Place.{binder-key}
 
 -- A call that was made, with its inputs and what lay in its lent output, and all that it answered.
 pub record Event : Type 0 where
@@ -73,11 +74,12 @@ pub record AsTheHistorySays (events : List Event) (s : Session) : Type 0 where
       → (again ≡ kept events) × (other ≡ s)
   -- a place that is held has its RFC value, any other is zero
   pub places : (p : Place) → lies p s ≡ place (heldAfter p events) (value p (bookOf events))
-  -- and the next call of Keys or Export is refused with 3 by that same table
+  -- and the next call of Keys, Export or Binder is refused with 3 by that same table (Binder where it is allowed)
   pub keys : (name : ℕ) → 1 ≤ name → name ≤ 5
       → keysHeld (bookOf events .point) (bookOf events .ran) name ≡ heldAfter (keysPlace name) events
   pub exports : (name : ℕ) → 1 ≤ name → name ≤ 2
       → exportHeld (bookOf events .point) (bookOf events .ran) name ≡ heldAfter (exportPlace name) events
+  pub binders : bookOf events .point ≡ early → not (eqb (bookOf events .kind) 0) ≡ heldAfter binder-key events
 
 abbrev pub Demand3 : Type 0
 Demand3 = (events : List Event) (s : Session) → Run freshSession events s → AsTheHistorySays events s
