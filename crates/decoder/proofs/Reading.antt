@@ -12,9 +12,9 @@ use Rattle.buffer.specs.Buffer.{overwrite, after}
 use Rattle.buffer.proofs.Laws.{after-fits}
 use Rattle.sha2.specs.declared.running.Running.{Running}
 use Rattle.session.specs.declared.Session.{Session}
-use Rattle.encoding.specs.Numbers.{number}
+use Rattle.buffer.specs.Numbers.{number}
 use Rattle.encoding.specs.Encoding.{sessionBytes, part, decodedRunning, decoded}
-use Rattle.encoding.proofs.Numbers.{number-1}
+use Rattle.buffer.proofs.Numbers.{number-1}
 
 -- n bytes from index at on, copied to an empty list of as many
 pub copied : (n at : ℕ) (bs z : List ℕ) {k : ℕ} {r : List ℕ} → at + n ≤ length bs → length z ≡ n → k ≡ n → r ≡ after 0 (take k (drop at bs)) z

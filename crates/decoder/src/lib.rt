@@ -15,7 +15,7 @@ ghost use lib.ListN.{length, drop};
 ghost use lib.Dec.{eqb};
 ghost use Rattle.book.specs.Book.{blankAt, fresh};
 ghost use Rattle.session.specs.Session.{sessionOf};
-ghost use Rattle.encoding.specs.Numbers.{words};
+ghost use Rattle.encoding.specs.Words.{words};
 ghost use Rattle.encoding.specs.Encoding.{sessionBytes, part, decodedRunning, decoded};
 
 // The 48 or 128 bytes from index at on.

@@ -2,7 +2,7 @@
 ghost use mathlib.Core.Path.{_≡_};
 ghost use Prim.Native.Nat.{_+_, _≤_, _<_};
 ghost use lib.ListN.{length};
-ghost use Rattle.encoding.specs.Numbers.{number};
+ghost use Rattle.buffer.specs.Numbers.{number};
 ghost use Rattle.encoding.specs.Encoding.{part};
 
 fn wide16(b: u8) -> u16

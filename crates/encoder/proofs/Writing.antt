@@ -10,13 +10,15 @@ use lib.Dec.{eqb}
 use borrow.Author.Tests.{eq-eqb, ne-eqb}
 use lib.Seq.{take-at, drop-at, drop-drop, take-suc, take-all}
 use Rattle.buffer.specs.Buffer.{overwrite, after, behind}
+use Rattle.buffer.specs.Numbers.{le}
+use Rattle.buffer.proofs.Numbers.{length-le}
 use Rattle.buffer.proofs.Laws.{after-fits, behind-fits, length-overwrite}
 use Rattle.sha2.specs.declared.running.Running.{Running}
 use Rattle.session.specs.declared.Session.{Session}
-use Rattle.encoding.specs.Numbers.{le, leWords}
+use Rattle.encoding.specs.Words.{leWords}
 use Rattle.encoder.specs.Over.{Over}
 use Rattle.encoding.specs.Encoding.{encodedNumbers, encodedRunning, encodedPlaces, encoded, sessionBytes}
-use Rattle.encoding.proofs.Numbers.{length-le, length-numbers, leWords-snoc}
+use Rattle.encoding.proofs.Laws.{length-numbers, leWords-snoc}
 
 pub start : (base : ℕ) (old : List ℕ) → Over base old old base [] 0
 unfolding overwrite

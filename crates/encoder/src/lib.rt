@@ -9,7 +9,8 @@ ghost use Prim.Native.Nat.{_+_, _≤_};
 ghost use lib.ListN.{length};
 ghost use lib.Dec.{eqb};
 ghost use Rattle.buffer.specs.Buffer.{after, behind};
-ghost use Rattle.encoding.specs.Numbers.{le, leWords};
+ghost use Rattle.buffer.specs.Numbers.{le};
+ghost use Rattle.encoding.specs.Words.{leWords};
 ghost use Rattle.encoding.specs.Encoding.{sessionBytes, encodedNumbers, encodedRunning, encodedPlaces, encoded};
 ghost use Rattle.encoder.specs.Over.{Over};
 

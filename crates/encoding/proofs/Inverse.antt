@@ -1,30 +1,19 @@
 -- Encoding and decoding undo each other.
-use Prim.Native.Nat.{ℕ, zero, suc, _+_, _*_, _/_, _%_, _^_, _≤_, _<_}
+use Prim.Native.Nat.{ℕ, zero, suc, _+_, _*_, _^_, _≤_, _<_}
 use mathlib.Core.Path.{_≡_, refl, sym, ap, _∙_}
 use mathlib.Core.List.{List, [], _∷_, _++_, append-assoc, append-nil}
-use native.Mathlib.Nat.{pow-suc}
 use native.Mathlib.Omega.{arith}
 use lib.ListN.{length, getD, take, drop, length-append}
 use lib.Seq.{take-at, drop-at, drop-drop, take-all, take-add}
 use Rattle.buffer.specs.Buffer.{Bytes}
+use Rattle.buffer.specs.Numbers.{le, number}
+use Rattle.buffer.proofs.Numbers.{length-le, number-le, le-part}
 use Rattle.sha2.specs.declared.running.Running.{Running}
 use Rattle.session.specs.declared.Session.{Session}
-use Rattle.encoding.specs.Numbers.{le, number, leWords, words}
+use Rattle.encoding.specs.Words.{leWords, words}
 use Rattle.encoding.specs.Encoding.{sessionBytes, part, encodedNumbers, encodedRunning, encodedPlaces, encoded, decodedRunning, decoded}
 use Rattle.encoding.specs.Inverse.{SessionFits, DecodesWhatItEncodes, EncodesWhatItDecodes}
-use Rattle.encoding.proofs.Numbers.{part-cons, length-le, length-leWords, length-numbers}
-
--- the bytes of the number that bytes stand for are those bytes
-le-part : (n at : ℕ) (bs : List ℕ) → at + n ≤ length bs → Bytes bs → le n (number (part at n bs)) ≡ part at n bs
-unfolding le number
-le-part zero at bs h y = refl
-le-part (suc n) at bs h y =
-    let b = getD bs at 0 in
-    let r = number (part (suc at) n bs) in
-    let s = y at in
-    let m : (b + 256 * r) % 256 ≡ b = omega arith in
-    let d : (b + 256 * r) / 256 ≡ r = omega arith in
-    rw (part-cons bs at n (omega arith), m, d, le-part n (suc at) bs (omega arith) y) refl
+use Rattle.encoding.proofs.Laws.{length-leWords, length-numbers}
 
 -- two parts that meet
 join : (bs : List ℕ) (at n m : ℕ) → part at n bs ++ part (at + n) m bs ≡ part at (n + m) bs
@@ -78,15 +67,6 @@ unfolding encoded
 encodes-what-it-decodes bs n y =
     rw (numbers-back bs n y, running-back bs n y, places-back bs n y, join bs 16 200 480)
     (join bs 0 16 680 ∙ take-all 696 bs (omega arith))
-
--- the number of its own bytes is the number
-number-le : (n x : ℕ) → x < 256 ^ n → number (le n x) ≡ x
-unfolding le number
-number-le zero x h = omega arith
-number-le (suc n) x h =
-    let p = pow-suc 256 n in
-    let e = number-le n (x / 256) (omega arith) in
-    omega arith
 
 -- a part of a list that is put together: where it stands, and past what stands before it
 here : (p r : List ℕ) (n : ℕ) → length p ≡ n → part 0 n (p ++ r) ≡ p

@@ -2,9 +2,10 @@
 use Prim.Native.Nat.{ℕ}
 use mathlib.Core.List.{List, _++_}
 use lib.ListN.{take, drop}
+use Rattle.buffer.specs.Numbers.{le, number}
 use Rattle.sha2.specs.declared.running.Running.{Running}
 use Rattle.session.specs.declared.Session.{Session}
-use Rattle.encoding.specs.Numbers.{le, number, leWords, words}
+use Rattle.encoding.specs.Words.{leWords, words}
 
 abbrev pub sessionBytes : ℕ
 sessionBytes = 696

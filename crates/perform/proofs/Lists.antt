@@ -1,5 +1,5 @@
 -- The encoding of a list is decoded as that list (specs/Lists), a record at a time.
-use Prim.Native.Nat.{ℕ, zero, suc, _+_, _*_, _/_, _%_, _^_, _≤_, _<_}
+use Prim.Native.Nat.{ℕ, zero, suc, _+_, _^_, _≤_, _<_}
 use mathlib.Core.Bool.{true}
 use mathlib.Core.List.{List, [], _∷_, _++_, append-assoc}
 use mathlib.Core.Path.{_≡_, refl, sym, ap, _∙_, subst}
@@ -8,13 +8,15 @@ use native.Mathlib.Nat.{add-zero}
 use lib.ListN.{length, getD, take, drop, length-append}
 use lib.Seq.{getD-append-add, drop-append-add, drop-drop, take-at, drop-at}
 use Rattle.buffer.specs.Buffer.{Bytes}
-use Rattle.frames.specs.Frames.{number2, number4}
-use Rattle.frames.proofs.Laws.{some2, some4, number2-behind, number4-behind}
+use Rattle.buffer.specs.Numbers.{le, number}
+use Rattle.buffer.proofs.Numbers.{length-le, bytes-le, number-le}
+use Rattle.frames.specs.Frames.{numberAt}
+use Rattle.frames.proofs.Laws.{number-at, number-behind}
 use Rattle.book.specs.Call.{Call, lent}
 use Rattle.book.specs.Call.Call.{Begin, Feed, Early, Handshake, Application, Complete, Update, Close, Keys, Finished, Check, Binder, Export}
 use Rattle.perform.specs.declared.encoded.Header.{Header}
 use Rattle.perform.specs.Encoding.{headerAt, callOf, callAt, fits, decodedFrom}
-use Rattle.perform.specs.Lists.{le2, le4, recordFor, recordOf, encoded, outputs, Slice, Possible, AllPossible, EveryListIsEncoded}
+use Rattle.perform.specs.Lists.{recordFor, recordOf, encoded, outputs, Slice, Possible, AllPossible, EveryListIsEncoded}
 use Rattle.perform.proofs.Performing.{header-is, all-there, no-strings, more-by, none-by}
 
 -- bytes
@@ -28,29 +30,6 @@ bytes-cons x xs h b (suc i) = b i
 bytes-append : (xs ys : List ℕ) → Bytes xs → Bytes ys → Bytes (xs ++ ys)
 bytes-append [] ys a b = b
 bytes-append (x ∷ xs) ys a b = bytes-cons x (xs ++ ys) (a 0) (bytes-append xs ys (λ i. a (suc i)) b)
-
-byte : (n : ℕ) (xs : List ℕ) → Bytes xs → Bytes ((n % 256) ∷ xs)
-byte n xs b = bytes-cons (n % 256) xs (omega arith) b
-
-two-bytes : (n : ℕ) → Bytes (le2 n)
-two-bytes n = byte n ((n / 256 % 256) ∷ []) (byte (n / 256) [] bytes-none)
-
-four-bytes : (n : ℕ) → Bytes (le4 n)
-four-bytes n =
-    byte n ((n / 256 % 256) ∷ (n / 65536 % 256) ∷ (n / 16777216 % 256) ∷ [])
-    (byte (n / 256) ((n / 65536 % 256) ∷ (n / 16777216 % 256) ∷ [])
-    (byte (n / 65536) ((n / 16777216 % 256) ∷ []) (byte (n / 16777216) [] bytes-none)))
-
--- a number is that of its bytes
-two : (n : ℕ) → n < 65536 → n % 256 + 256 * (n / 256 % 256) ≡ n
-two n h = omega arith
-
-four : (n : ℕ) → n < 2 ^ 32 → n % 256 + 256 * (n / 256 % 256) + 65536 * (n / 65536 % 256 + 256 * (n / 16777216 % 256)) ≡ n
-four n h =
-    let low : n % 256 + 256 * (n / 256 % 256) ≡ n % 65536 = omega arith in
-    let last : n / 16777216 ≡ n / 65536 / 256 = omega arith in
-    let high : n / 65536 % 256 + 256 * (n / 65536 / 256 % 256) ≡ n / 65536 = two (n / 65536) (omega arith) in
-    rw (last, low, high) (omega arith)
 
 -- A call as a record: its kind, numbers and byte strings.
 record Encodes (c : Call) : Type 0 where
@@ -123,45 +102,43 @@ encodes (Export name label context asked output) p =
 module _ (k s w a : ℕ) (f g o : List ℕ) where
   length-record : length (recordFor k s w a f g o) ≡ 20 + length f + length g
   unfolding recordFor
-  length-record = simp length-append (omega arith)
+  length-record = simp (length-append, length-le) (omega arith)
 
   bytes-record : k < 256 → s < 256 → Bytes f → Bytes g → Bytes (recordFor k s w a f g o)
   unfolding recordFor
   bytes-record hk hs bf bg =
       let x0 : List ℕ = f ++ g in
-      let x1 : List ℕ = le4 (length o) ++ x0 in
-      let x2 : List ℕ = le4 a ++ x1 in
-      let x3 : List ℕ = le4 (length g) ++ x2 in
-      let x4 : List ℕ = le4 (length f) ++ x3 in
-      let b1 : Bytes x1 = bytes-append (le4 (length o)) x0 (four-bytes (length o)) (bytes-append f g bf bg) in
-      let b3 : Bytes x3 = bytes-append (le4 (length g)) x2 (four-bytes (length g)) (bytes-append (le4 a) x1 (four-bytes a) b1) in
-      let b4 : Bytes x4 = bytes-append (le4 (length f)) x3 (four-bytes (length f)) b3 in
-      bytes-cons k (s ∷ (le2 w ++ x4)) hk (bytes-cons s (le2 w ++ x4) hs (bytes-append (le2 w) x4 (two-bytes w) b4))
+      let x1 : List ℕ = le 4 (length o) ++ x0 in
+      let x2 : List ℕ = le 4 a ++ x1 in
+      let x3 : List ℕ = le 4 (length g) ++ x2 in
+      let x4 : List ℕ = le 4 (length f) ++ x3 in
+      let b1 : Bytes x1 = bytes-append (le 4 (length o)) x0 (bytes-le 4 (length o)) (bytes-append f g bf bg) in
+      let b3 : Bytes x3 = bytes-append (le 4 (length g)) x2 (bytes-le 4 (length g)) (bytes-append (le 4 a) x1 (bytes-le 4 a) b1) in
+      let b4 : Bytes x4 = bytes-append (le 4 (length f)) x3 (bytes-le 4 (length f)) b3 in
+      bytes-cons k (s ∷ (le 2 w ++ x4)) hk (bytes-cons s (le 2 w ++ x4) hs (bytes-append (le 2 w) x4 (bytes-le 2 w) b4))
 
   module _ (pre rest lpre lrest : List ℕ) where
     header : w < 65536 → a < 2 ^ 32 → length f < 2 ^ 32 → length g < 2 ^ 32 → length o < 2 ^ 32
         → _≡_ {A = Header} (record { kind = k; small = s; wide = w; first = length f; second = length g; asked = a; room = length o })
         (headerAt (pre ++ (recordFor k s w a f g o ++ rest)) (length pre))
-    unfolding recordFor
+    unfolding recordFor le
     header hw ha hf hg ho =
         let X : List ℕ = recordFor k s w a f g o ++ rest in
         let lx : length X ≡ 20 + length f + length g + length rest = simp length-append (omega arith) in
         let e0 : getD (pre ++ X) (length pre) 0 ≡ k =
         ap (λ (n : ℕ). getD (pre ++ X) n 0) (sym (add-zero (length pre))) ∙ getD-append-add pre X 0 0 in
         let e1 : getD (pre ++ X) (length pre + 1) 0 ≡ s = getD-append-add pre X 1 0 in
-        let e2 : number2 (pre ++ X) (length pre + 2) ≡ w = number2-behind pre X 2 (omega arith) ∙ sym (some2 X 2 (omega arith) refl) ∙ two w hw in
-        let e3 : number4 (pre ++ X) (length pre + 4) ≡ length f =
-        number4-behind pre X 4 (omega arith) ∙ sym (some4 X 4 (omega arith) refl) ∙ four (length f) hf in
-        let e4 : number4 (pre ++ X) (length pre + 8) ≡ length g =
-        number4-behind pre X 8 (omega arith) ∙ sym (some4 X 8 (omega arith) refl) ∙ four (length g) hg in
-        let e5 : number4 (pre ++ X) (length pre + 12) ≡ a =
-        number4-behind pre X 12 (omega arith) ∙ sym (some4 X 12 (omega arith) refl) ∙ four a ha in
-        let e6 : number4 (pre ++ X) (length pre + 16) ≡ length o =
-        number4-behind pre X 16 (omega arith) ∙ sym (some4 X 16 (omega arith) refl) ∙ four (length o) ho in
+        let e2 : numberAt 2 (pre ++ X) (length pre + 2) ≡ w = number-behind 2 pre X 2 (omega arith) ∙ number-at 2 X 2 (omega arith) ∙ number-le 2 w hw in
+        let four : (at v : ℕ) → at + 4 ≤ length X → take 4 (drop at X) ≡ le 4 v → v < 2 ^ 32 → numberAt 4 (pre ++ X) (length pre + at) ≡ v =
+        λ at v fits e small. number-behind 4 pre X at fits ∙ number-at 4 X at fits ∙ ap number e ∙ number-le 4 v small in
+        let e3 : numberAt 4 (pre ++ X) (length pre + 4) ≡ length f = four 4 (length f) (omega arith) refl hf in
+        let e4 : numberAt 4 (pre ++ X) (length pre + 8) ≡ length g = four 8 (length g) (omega arith) refl hg in
+        let e5 : numberAt 4 (pre ++ X) (length pre + 12) ≡ a = four 12 a (omega arith) refl ha in
+        let e6 : numberAt 4 (pre ++ X) (length pre + 16) ≡ length o = four 16 (length o) (omega arith) refl ho in
         header-is (pre ++ X) (length pre) (sym e0) (sym e1) (sym e2) (sym e3) (sym e4) (sym e5) (sym e6)
 
     strings : drop (length pre + 20) (pre ++ (recordFor k s w a f g o ++ rest)) ≡ f ++ (g ++ rest)
-    unfolding recordFor
+    unfolding recordFor le
     strings = drop-append-add pre (recordFor k s w a f g o ++ rest) 20 ∙ append-assoc f g rest
 
     call-back : {h : Header}

@@ -8,7 +8,7 @@ use lib.ListN.{length, getD, take, drop, length-append, length-take, length-drop
 use lib.Seq.{drop-drop, drop-at}
 use borrow.Author.Tests.{le-leb, lt-leb, leb-true, not-true, not-false}
 use Rattle.refusal.proofs.Laws.{and-true}
-use Rattle.frames.specs.Frames.{number2, number4}
+use Rattle.frames.specs.Frames.{numberAt}
 use Rattle.session.specs.declared.Session.{Session}
 use Rattle.book.specs.Call.{Call}
 use Rattle.session.specs.Promise.{Reply, Done}
@@ -19,8 +19,8 @@ use Rattle.perform.specs.Encoding.{headerAt, callOf, callAt, fits, decod
 
 -- a header is its numbers
 pub header-is : (list : List ℕ) (at : ℕ) {k n w a b m o : ℕ} → k ≡ getD list at 0 → n ≡ getD list (at + 1) 0
-    → w ≡ number2 list (at + 2)
-    → a ≡ number4 list (at + 4) → b ≡ number4 list (at + 8) → m ≡ number4 list (at + 12) → o ≡ number4 list (at + 16)
+    → w ≡ numberAt 2 list (at + 2)
+    → a ≡ numberAt 4 list (at + 4) → b ≡ numberAt 4 list (at + 8) → m ≡ numberAt 4 list (at + 12) → o ≡ numberAt 4 list (at + 16)
     → _≡_ {A = Header} (record { kind = k; small = n; wide = w; first = a; second = b; asked = m; room = o }) (headerAt list at)
 unfolding headerAt
 header-is list at p q r s t u v i = record { kind = p i; small = q i; wide = r i; first = s i; second = t i; asked = u i; room = v i }

@@ -6,7 +6,7 @@ use mathlib.Core.Bool.{Bool, cond, _&&_}
 use mathlib.Core.List.{List, [], _∷_}
 use lib.ListN.{length, getD, take, drop}
 use lib.Dec.{eqb, leb}
-use Rattle.frames.specs.Frames.{number2, number4}
+use Rattle.frames.specs.Frames.{numberAt}
 use Rattle.book.specs.Call.{Call}
 use Rattle.book.specs.Call.Call.{Begin, Feed, Early, Handshake, Application, Complete, Update, Close, Keys, Finished, Check, Binder, Export}
 use Rattle.perform.specs.declared.encoded.Header.{Header}
@@ -17,11 +17,11 @@ headerAt list at =
     record {
       kind = getD list at 0;
       small = getD list (at + 1) 0;
-      wide = number2 list (at + 2);
-      first = number4 list (at + 4);
-      second = number4 list (at + 8);
-      asked = number4 list (at + 12);
-      room = number4 list (at + 16);
+      wide = numberAt 2 list (at + 2);
+      first = numberAt 4 list (at + 4);
+      second = numberAt 4 list (at + 8);
+      asked = numberAt 4 list (at + 12);
+      room = numberAt 4 list (at + 16);
     }
 
 -- The call of each kind. The small number is a PSK kind, side or name, the wide one a suite or group; any other kind is Close.

@@ -1,24 +1,18 @@
 -- Every list of calls has an encoding, so that `perform` can make it.
-use Prim.Native.Nat.{ℕ, _<_, _/_, _%_, _^_}
+use Prim.Native.Nat.{ℕ, _<_, _^_}
 use mathlib.Core.List.{List, [], _∷_, _++_}
 use mathlib.Core.Path.{_≡_}
 use lib.ListN.{length}
 use Rattle.buffer.specs.Buffer.{Bytes}
+use Rattle.buffer.specs.Numbers.{le}
 use Rattle.book.specs.Call.{Call, lent}
 use Rattle.book.specs.Call.Call.{Begin, Feed, Early, Handshake, Application, Complete, Update, Close, Keys, Finished, Check, Binder, Export}
 use Rattle.perform.specs.Encoding.{decoded}
 
--- numbers of 2 and 4 bytes, little-endian
-abbrev pub le2 : ℕ → List ℕ
-le2 n = (n % 256) ∷ (n / 256 % 256) ∷ []
-
-abbrev pub le4 : ℕ → List ℕ
-le4 n = (n % 256) ∷ (n / 256 % 256) ∷ (n / 65536 % 256) ∷ (n / 16777216 % 256) ∷ []
-
 -- a header, and the two byte strings behind it
 unfoldable pub recordFor : (kind small wide asked : ℕ) (first second output : List ℕ) → List ℕ
 recordFor kind small wide asked first second output =
-    kind ∷ small ∷ (le2 wide ++ (le4 (length first) ++ (le4 (length second) ++ (le4 asked ++ (le4 (length output) ++ (first ++ second))))))
+    kind ∷ small ∷ (le 2 wide ++ (le 4 (length first) ++ (le 4 (length second) ++ (le 4 asked ++ (le 4 (length output) ++ (first ++ second))))))
 
 unfoldable pub recordOf : Call → List ℕ
 recordOf (Begin suite kind psk) = recordFor 1 kind suite 0 psk [] []

@@ -3,8 +3,8 @@ use mathlib.Core.Path.{_≡_, refl}
 use native.Mathlib.Omega.{arith}
 use lib.ListN.{length, take, drop, length-set}
 use denote.Ref.{now}
-use Rattle.encoding.specs.Numbers.{words}
-use Rattle.encoding.proofs.Numbers.{length-words, word-read}
+use Rattle.encoding.specs.Words.{words}
+use Rattle.encoding.proofs.Laws.{length-words, word-read}
 use Rattle.fips180.proofs.Filling.{fill-step, fill-done}
 use borrow.Author.Needs.{needs}
 use Rattle.decoder.proofs.words.Statement.{statement}

@@ -1,5 +1,5 @@
 use mathlib.Core.Path.{refl}
-use Rattle.encoding.specs.Numbers.{le}
+use Rattle.buffer.specs.Numbers.{le}
 use borrow.Author.Needs.{needs}
 use Rattle.encoder.proofs.le8.Statement.{statement}
 use Rattle.encoder.proofs.le8.Tie as tie

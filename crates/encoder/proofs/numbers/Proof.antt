@@ -1,5 +1,5 @@
 use native.Mathlib.Omega.{arith}
-use Rattle.encoding.proofs.Numbers.{numbers-are}
+use Rattle.encoding.proofs.Laws.{numbers-are}
 use borrow.Author.Needs.{needs}
 use Rattle.encoder.proofs.numbers.Statement.{statement}
 use Rattle.encoder.proofs.numbers.Tie as tie

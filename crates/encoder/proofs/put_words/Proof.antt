@@ -2,7 +2,7 @@ use Prim.Native.Nat.{_-_, _≤_, _+_, _*_}
 use mathlib.Core.Path.{_≡_}
 use native.Mathlib.Omega.{arith}
 use lib.ListN.{length, take}
-use Rattle.encoding.specs.Numbers.{leWords}
+use Rattle.encoding.specs.Words.{leWords}
 use Rattle.encoder.specs.Over.{Over}
 use Rattle.encoder.proofs.Writing.{start, over-length, word-more, words-done}
 use borrow.Author.Needs.{needs}
