@@ -1,8 +1,7 @@
 -- The digests of no bytes, computed by the definitions of FIPS 180-4.
-use Prim.Native.Nat.{ℕ}
-use mathlib.Core.Path.{_≡_, refl, ap, _∙_}
-use mathlib.Core.List.{List, [], _∷_}
-use Rattle.buffer.specs.Buffer.{zeros, fronted, placed}
+use mathlib.Core.Path.{_≡_, refl}
+use mathlib.Core.List.{[], _∷_}
+use Rattle.buffer.specs.Buffer.{zeros}
 use Rattle.fips180.specs.Variant.{sha256, sha384, Σ0, Σ1, σ0, σ1}
 use Rattle.fips180.specs.Words.{plus, rotr, shr, bytesOf, numberFrom, ch, maj, rotations, rotationsShift}
 use Rattle.fips180.specs.Padding.{zerosFor, padding, padded, blocks, blockAt, wordsOf}

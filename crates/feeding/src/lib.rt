@@ -9,7 +9,6 @@ use refusal::Answer;
 use session::Outcome;
 use session::Session;
 use sha2::running::absorb;
-ghost use mathlib.Core.Path.{_≡_};
 ghost use Rattle.book.specs.Call.{Call};
 ghost use Rattle.session.specs.Promise.{Done, plain};
 

@@ -15,7 +15,6 @@ use refusal::Answer;
 use session::Outcome;
 use session::Session;
 use sha2::running::finish;
-ghost use mathlib.Core.Path.{_≡_};
 ghost use mathlib.Core.List.{[]};
 ghost use Rattle.book.specs.Call.{Call};
 ghost use Rattle.session.specs.Promise.{Done, plain};

@@ -4,7 +4,6 @@ use super::Session;
 use super::fresh;
 use book::points::CLOSED;
 use refusal::Answer;
-ghost use mathlib.Core.Path.{_≡_};
 ghost use Rattle.book.specs.Call.{Call};
 ghost use Rattle.session.specs.Promise.{Done, plain};
 

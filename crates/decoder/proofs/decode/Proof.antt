@@ -7,13 +7,6 @@ use Rattle.decoder.proofs.Reading.{read, other-size}
 use borrow.Author.Needs.{needs}
 use Rattle.decoder.proofs.decode.Statement.{statement}
 use Rattle.decoder.proofs.decode.Tie as tie
-use Rattle.decoder.proofs.decode.Reads as reads
-use Rattle.decoder.proofs.decode.Lts as lts
-use Rattle.decoder.proofs.decode_running.Reads as decode-running-reads
-use Rattle.decoder.proofs.part48.Reads as part48-reads
-use Rattle.decoder.proofs.number.number2.Reads as number2-reads
-use Rattle.decoder.proofs.number.number4.Reads as number4-reads
-use Rattle.session.proofs.fresh.Reads as fresh-reads
 
 fresh-requires : tie.Need-fresh-requires
 fresh-requires c κs = search needs

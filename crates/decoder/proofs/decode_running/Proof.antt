@@ -2,11 +2,6 @@ use Rattle.encoding.specs.Encoding.{decodedRunning}
 use borrow.Author.Needs.{needs}
 use Rattle.decoder.proofs.decode_running.Statement.{statement}
 use Rattle.decoder.proofs.decode_running.Tie as tie
-use Rattle.decoder.proofs.decode_running.Reads as reads
-use Rattle.decoder.proofs.decode_running.Lts as lts
-use Rattle.decoder.proofs.part128.Reads as part128-reads
-use Rattle.decoder.proofs.words.Reads as words-reads
-use Rattle.decoder.proofs.number.number8.Reads as number8-reads
 
 words-requires : tie.Need-words-requires
 words-requires c κs = search needs

@@ -9,9 +9,6 @@ use Rattle.fips180.proofs.Filling.{fill-step, fill-done}
 use borrow.Author.Needs.{needs}
 use Rattle.decoder.proofs.words.Statement.{statement}
 use Rattle.decoder.proofs.words.Tie as tie
-use Rattle.decoder.proofs.words.Reads as reads
-use Rattle.decoder.proofs.words.Lts as lts
-use Rattle.decoder.proofs.number.number8.Reads as number8-reads
 
 abbrev Inv-loop : tie.InvT-loop
 Inv-loop b r₀ i₀ r i = (i ≤ 8) × (length r ≡ 8) × (length b ≡ 696) × (take i r ≡ take i (words 8 (drop 16 b)))

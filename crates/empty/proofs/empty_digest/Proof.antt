@@ -1,9 +1,8 @@
-use mathlib.Core.List.{List, []}
+use mathlib.Core.List.{[]}
 use mathlib.Core.Path.{sym, ap, _∙_}
-use Prim.Native.Nat.{ℕ}
 use borrow.Author.Needs.{needs}
 use Rattle.buffer.specs.Buffer.{zeros, fronted, placed}
-use Rattle.fips180.specs.Variant.{Variant, sha256, sha384}
+use Rattle.fips180.specs.Variant.{Variant}
 use Rattle.fips180.specs.Hash.{sha2}
 use Rattle.sha2.specs.Hash.{hash}
 use Rattle.sha2.proofs.Sound.{is-variant}

@@ -3,11 +3,6 @@ use Rattle.encoder.proofs.Writing.{session-over, another-size}
 use borrow.Author.Needs.{needs}
 use Rattle.encoder.proofs.encode.Statement.{statement}
 use Rattle.encoder.proofs.encode.Tie as tie
-use Rattle.encoder.proofs.encode.Reads as reads
-use Rattle.encoder.proofs.encode.Lts as lts
-use Rattle.encoder.proofs.put_numbers.Reads as put-numbers-reads
-use Rattle.encoder.proofs.put_places.Reads as put-places-reads
-use Rattle.encoder.proofs.put_running.Reads as put-running-reads
 
 returns : tie.Need-returns
 returns c = let s = c .before .before in another-size (s .args .s) (now (s .args .out)) (c .if1 .taken)

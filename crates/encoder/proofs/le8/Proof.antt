@@ -3,8 +3,6 @@ use Rattle.buffer.specs.Numbers.{le}
 use borrow.Author.Needs.{needs}
 use Rattle.encoder.proofs.le8.Statement.{statement}
 use Rattle.encoder.proofs.le8.Tie as tie
-use Rattle.encoder.proofs.le8.Reads as reads
-use Rattle.encoder.proofs.le8.Lts as lts
 
 cast-t3 : tie.Need-cast-t3
 cast-t3 c = search needs

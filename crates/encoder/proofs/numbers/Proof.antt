@@ -3,8 +3,6 @@ use Rattle.encoding.proofs.Laws.{numbers-are}
 use borrow.Author.Needs.{needs}
 use Rattle.encoder.proofs.numbers.Statement.{statement}
 use Rattle.encoder.proofs.numbers.Tie as tie
-use Rattle.encoder.proofs.numbers.Reads as reads
-use Rattle.encoder.proofs.numbers.Lts as lts
 
 cast-t9 : tie.Need-cast-t9
 cast-t9 c = search needs

@@ -4,10 +4,6 @@ use Rattle.encoder.proofs.Writing.{numbers-over}
 use borrow.Author.Needs.{needs}
 use Rattle.encoder.proofs.put_numbers.Statement.{statement}
 use Rattle.encoder.proofs.put_numbers.Tie as tie
-use Rattle.encoder.proofs.put_numbers.Reads as reads
-use Rattle.encoder.proofs.put_numbers.Lts as lts
-use Rattle.buffer.proofs.put.Reads as put-reads
-use Rattle.encoder.proofs.numbers.Reads as numbers-reads
 
 numbers-requires : tie.Need-numbers-requires
 numbers-requires c κs = search needs

@@ -4,9 +4,6 @@ use Rattle.encoder.proofs.Writing.{over-length, places-over}
 use borrow.Author.Needs.{needs}
 use Rattle.encoder.proofs.put_places.Statement.{statement}
 use Rattle.encoder.proofs.put_places.Tie as tie
-use Rattle.encoder.proofs.put_places.Reads as reads
-use Rattle.encoder.proofs.put_places.Lts as lts
-use Rattle.encoder.proofs.put_place.Reads as put-place-reads
 
 put-place-requires : tie.Need-put-place-requires
 put-place-requires c κs = search needs

@@ -3,12 +3,6 @@ use Rattle.encoder.proofs.Writing.{running-over}
 use borrow.Author.Needs.{needs}
 use Rattle.encoder.proofs.put_running.Statement.{statement}
 use Rattle.encoder.proofs.put_running.Tie as tie
-use Rattle.encoder.proofs.put_running.Reads as reads
-use Rattle.encoder.proofs.put_running.Lts as lts
-use Rattle.buffer.proofs.put.Reads as put-reads
-use Rattle.encoder.proofs.put_block.Reads as put-block-reads
-use Rattle.encoder.proofs.put_words.Reads as put-words-reads
-use Rattle.encoder.proofs.le8.Reads as le8-reads
 
 le8-requires : tie.Need-le8-requires
 le8-requires c κs = search needs

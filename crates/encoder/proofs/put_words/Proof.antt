@@ -8,10 +8,6 @@ use Rattle.encoder.proofs.Writing.{start, over-length, word-more, words
 use borrow.Author.Needs.{needs}
 use Rattle.encoder.proofs.put_words.Statement.{statement}
 use Rattle.encoder.proofs.put_words.Tie as tie
-use Rattle.encoder.proofs.put_words.Reads as reads
-use Rattle.encoder.proofs.put_words.Lts as lts
-use Rattle.buffer.proofs.put.Reads as put-reads
-use Rattle.encoder.proofs.le8.Reads as le8-reads
 
 abbrev Inv-loop : tie.InvT-loop
 Inv-loop at out₀ state next₀ i₀ out next i = (i ≤ 8) × (length state ≡ 8) × (at + 64 ≤ length out₀) × Over at out₀ out next (leWords (take i state)) (8 * i)

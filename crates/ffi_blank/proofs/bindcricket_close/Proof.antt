@@ -6,11 +6,6 @@ use Rattle.lent.proofs.Calls.{wrong-size, changing}
 use borrow.Author.Needs.{needs}
 use Rattle.ffi_blank.proofs.bindcricket_close.Statement.{statement}
 use Rattle.ffi_blank.proofs.bindcricket_close.Tie as tie
-use Rattle.ffi_blank.proofs.bindcricket_close.Reads as reads
-use Rattle.ffi_blank.proofs.bindcricket_close.Lts as lts
-use Rattle.decoder.proofs.decode.Reads as decode-reads
-use Rattle.lent.proofs.store.Reads as store-reads
-use Rattle.session.proofs.close.close.Reads as close-reads
 
 returns : tie.Need-returns
 returns c = let s = c .before .before in wrong-size (now (s .args .session)) Close [] (c .if1 .taken)

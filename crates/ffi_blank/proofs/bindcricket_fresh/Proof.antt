@@ -3,10 +3,6 @@ use Rattle.ffi_blank.proofs.Fresh.{not-fresh, freshly}
 use borrow.Author.Needs.{needs}
 use Rattle.ffi_blank.proofs.bindcricket_fresh.Statement.{statement}
 use Rattle.ffi_blank.proofs.bindcricket_fresh.Tie as tie
-use Rattle.ffi_blank.proofs.bindcricket_fresh.Reads as reads
-use Rattle.ffi_blank.proofs.bindcricket_fresh.Lts as lts
-use Rattle.encoder.proofs.encode.Reads as encode-reads
-use Rattle.session.proofs.fresh.Reads as fresh-reads
 
 returns : tie.Need-returns
 returns c = not-fresh (now (c .before .before .args .session)) (c .if1 .taken)

@@ -3,10 +3,6 @@ use borrow.Author.Tests.{eq-eqb, ne-eqb}
 use borrow.Author.Needs.{needs}
 use Rattle.lent.proofs.store.Statement.{statement}
 use Rattle.lent.proofs.store.Tie as tie
-use Rattle.lent.proofs.store.Reads as reads
-use Rattle.lent.proofs.store.Lts as lts
-use Rattle.encoder.proofs.encode.Reads as encode-reads
-use Rattle.refusal.proofs.Answer.number.Reads as number-reads
 
 number-requires : tie.Need-number-requires
 number-requires c κs = search needs

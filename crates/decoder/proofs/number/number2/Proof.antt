@@ -4,9 +4,6 @@ use Rattle.buffer.proofs.Numbers.{number-2}
 use borrow.Author.Needs.{needs}
 use Rattle.decoder.proofs.number.number2.Statement.{statement}
 use Rattle.decoder.proofs.number.number2.Tie as tie
-use Rattle.decoder.proofs.number.number2.Reads as reads
-use Rattle.decoder.proofs.number.number2.Lts as lts
-use Rattle.decoder.proofs.number.wide16.Reads as wide16-reads
 
 shared-slice-read-wide16 : tie.Need-shared-slice-read-wide16
 shared-slice-read-wide16 c = search needs

@@ -4,10 +4,6 @@ use Rattle.buffer.proofs.Numbers.{number-4}
 use borrow.Author.Needs.{needs}
 use Rattle.decoder.proofs.number.number4.Statement.{statement}
 use Rattle.decoder.proofs.number.number4.Tie as tie
-use Rattle.decoder.proofs.number.number4.Reads as reads
-use Rattle.decoder.proofs.number.number4.Lts as lts
-use Rattle.decoder.proofs.number.number2.Reads as number2-reads
-use Rattle.decoder.proofs.number.wide32.Reads as wide32-reads
 
 number2-requires : tie.Need-number2-requires
 number2-requires c κs = search needs

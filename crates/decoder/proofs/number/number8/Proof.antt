@@ -4,10 +4,6 @@ use Rattle.buffer.proofs.Numbers.{number-8}
 use borrow.Author.Needs.{needs}
 use Rattle.decoder.proofs.number.number8.Statement.{statement}
 use Rattle.decoder.proofs.number.number8.Tie as tie
-use Rattle.decoder.proofs.number.number8.Reads as reads
-use Rattle.decoder.proofs.number.number8.Lts as lts
-use Rattle.decoder.proofs.number.number4.Reads as number4-reads
-use Rattle.decoder.proofs.number.wide64.Reads as wide64-reads
 
 number4-requires : tie.Need-number4-requires
 number4-requires c κs = search needs

@@ -6,11 +6,6 @@ use Rattle.lent.proofs.Calls.{wrong-size, changing}
 use borrow.Author.Needs.{needs}
 use Rattle.ffi.proofs.changing.bindcricket_begin.Statement.{statement}
 use Rattle.ffi.proofs.changing.bindcricket_begin.Tie as tie
-use Rattle.ffi.proofs.changing.bindcricket_begin.Reads as reads
-use Rattle.ffi.proofs.changing.bindcricket_begin.Lts as lts
-use Rattle.decoder.proofs.decode.Reads as decode-reads
-use Rattle.lent.proofs.store.Reads as store-reads
-use Rattle.opening_stage.proofs.begin.Reads as begin-reads
 
 returns : tie.Need-returns
 returns c = let s = c .before .before .before in wrong-size (now (s .args .session)) (Begin _ _ (now (s .args .psk))) [] (c .if1 .taken)

@@ -6,11 +6,6 @@ use Rattle.lent.proofs.Calls.{wrong-size, changing}
 use borrow.Author.Needs.{needs}
 use Rattle.ffi.proofs.changing.bindcricket_complete.Statement.{statement}
 use Rattle.ffi.proofs.changing.bindcricket_complete.Tie as tie
-use Rattle.ffi.proofs.changing.bindcricket_complete.Reads as reads
-use Rattle.ffi.proofs.changing.bindcricket_complete.Lts as lts
-use Rattle.complete_stage.proofs.complete.complete.Reads as complete-reads
-use Rattle.decoder.proofs.decode.Reads as decode-reads
-use Rattle.lent.proofs.store.Reads as store-reads
 
 returns : tie.Need-returns
 returns c = let s = c .before .before in wrong-size (now (s .args .session)) Complete [] (c .if1 .taken)

@@ -6,11 +6,6 @@ use Rattle.lent.proofs.Calls.{wrong-size, changing}
 use borrow.Author.Needs.{needs}
 use Rattle.ffi.proofs.changing.bindcricket_feed.Statement.{statement}
 use Rattle.ffi.proofs.changing.bindcricket_feed.Tie as tie
-use Rattle.ffi.proofs.changing.bindcricket_feed.Reads as reads
-use Rattle.ffi.proofs.changing.bindcricket_feed.Lts as lts
-use Rattle.decoder.proofs.decode.Reads as decode-reads
-use Rattle.lent.proofs.store.Reads as store-reads
-use Rattle.feeding.proofs.feed.Reads as feed-reads
 
 returns : tie.Need-returns
 returns c = let s = c .before .before .before in wrong-size (now (s .args .session)) (Feed (now (s .args .message))) [] (c .if1 .taken)

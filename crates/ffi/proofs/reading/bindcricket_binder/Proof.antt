@@ -6,11 +6,6 @@ use Rattle.ffi.proofs.Calls.{writing}
 use borrow.Author.Needs.{needs}
 use Rattle.ffi.proofs.reading.bindcricket_binder.Statement.{statement}
 use Rattle.ffi.proofs.reading.bindcricket_binder.Tie as tie
-use Rattle.ffi.proofs.reading.bindcricket_binder.Reads as reads
-use Rattle.ffi.proofs.reading.bindcricket_binder.Lts as lts
-use Rattle.decoder.proofs.decode.Reads as decode-reads
-use Rattle.finished.proofs.binder.binder.Reads as binder-reads
-use Rattle.ffi.proofs.report.report.Reads as report-reads
 
 returns : tie.Need-returns
 returns c = let s = c .before .before .before .before in wrong-size (now (s .args .session)) (Binder (now (s .args .hello)) (now (s .args .out))) (now (s .args .out)) (c .if1 .taken)

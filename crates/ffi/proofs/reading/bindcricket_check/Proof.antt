@@ -1,4 +1,3 @@
-use Prim.Native.Nat.{ℕ}
 use mathlib.Core.Bool.{Bool, true, false, cond}
 use mathlib.Core.Path.{_≡_, ap}
 use mir.Val.{boolByte}
@@ -11,12 +10,6 @@ use Rattle.ffi.proofs.Calls.{saying}
 use borrow.Author.Needs.{needs}
 use Rattle.ffi.proofs.reading.bindcricket_check.Statement.{statement}
 use Rattle.ffi.proofs.reading.bindcricket_check.Tie as tie
-use Rattle.ffi.proofs.reading.bindcricket_check.Reads as reads
-use Rattle.ffi.proofs.reading.bindcricket_check.Lts as lts
-use Rattle.decoder.proofs.decode.Reads as decode-reads
-use Rattle.finished.proofs.check.check.Reads as check-reads
-use Rattle.refusal.proofs.verdict.Verdict.is_yes.Reads as is-yes-reads
-use Rattle.refusal.proofs.verdict.Verdict.number.Reads as number-reads
 
 returns : tie.Need-returns
 returns c = let s = c .before .before .before in wrong-size (now (s .args .session)) (Check _ (now (s .args .received))) [] (c .if1 .taken)

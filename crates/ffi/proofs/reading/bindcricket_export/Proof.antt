@@ -6,11 +6,6 @@ use Rattle.ffi.proofs.Calls.{writing}
 use borrow.Author.Needs.{needs}
 use Rattle.ffi.proofs.reading.bindcricket_export.Statement.{statement}
 use Rattle.ffi.proofs.reading.bindcricket_export.Tie as tie
-use Rattle.ffi.proofs.reading.bindcricket_export.Reads as reads
-use Rattle.ffi.proofs.reading.bindcricket_export.Lts as lts
-use Rattle.decoder.proofs.decode.Reads as decode-reads
-use Rattle.outputs.proofs.export.export.Reads as export-reads
-use Rattle.ffi.proofs.report.report.Reads as report-reads
 
 returns : tie.Need-returns
 returns c = let s = c .before .before .before .before .before in wrong-size (now (s .args .session)) (Export _ (now (s .args .label)) (now (s .args .context)) _ (now (s .args .out))) (now (s .args .out)) (c .if1 .taken)

@@ -6,11 +6,6 @@ use Rattle.ffi.proofs.Calls.{writing}
 use borrow.Author.Needs.{needs}
 use Rattle.ffi.proofs.reading.bindcricket_keys.Statement.{statement}
 use Rattle.ffi.proofs.reading.bindcricket_keys.Tie as tie
-use Rattle.ffi.proofs.reading.bindcricket_keys.Reads as reads
-use Rattle.ffi.proofs.reading.bindcricket_keys.Lts as lts
-use Rattle.decoder.proofs.decode.Reads as decode-reads
-use Rattle.outputs.proofs.keys.keys.Reads as keys-reads
-use Rattle.ffi.proofs.report.report.Reads as report-reads
 
 returns : tie.Need-returns
 returns c = let s = c .before .before .before in wrong-size (now (s .args .session)) (Keys _ (now (s .args .out))) (now (s .args .out)) (c .if1 .taken)

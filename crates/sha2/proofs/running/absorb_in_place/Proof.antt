@@ -7,7 +7,7 @@ use Rattle.sha2.specs.Variants.{variantOf}
 use Rattle.sha2.specs.Running.{run}
 use Rattle.sha2.proofs.Sound.{sound, block-len, positive}
 use native.Mathlib.Omega.{arith}
-use mathlib.Core.Path.{_≡_, _∙_}
+use mathlib.Core.Path.{_∙_}
 use borrow.Author.Needs.{needs}
 use Rattle.sha2.proofs.running.absorb_in_place.Statement.{statement}
 use Rattle.sha2.proofs.running.absorb_in_place.Tie as tie
