@@ -1,4 +1,6 @@
 // Application: the secrets for application data.
+#![tactic(auto)]
+
 ghost use Rattle.std.specs.Prelude.{◌≡◌, []};
 ghost use Rattle.book.specs.Call.{Call};
 ghost use Rattle.book.specs.Refusals.{application_number};

@@ -1,4 +1,6 @@
 // Runs a list of calls from standard input, and prints what each answers.
+#![tactic(auto)]
+
 mod changes;
 mod driver;
 mod journals;

@@ -1,4 +1,6 @@
 // The secrets that lead from one stage to the next (RFC 8446, section 7.1): Early, Handshake and Master Secret.
+#![tactic(auto)]
+
 ghost use Rattle.std.specs.Prelude.{◌≡◌, take};
 ghost use Rattle.buffer.specs.Buffer.{placed};
 ghost use Rattle.suite.specs.Suite.{hash_length};

@@ -1,4 +1,6 @@
 // A session from the bytes that a caller keeps.
+#![tactic(auto)]
+
 mod number;
 
 ghost use Rattle.std.specs.Prelude.{◌≡◌, cond, ◌+◌, ◌≤◌, length, drop, eqb};

@@ -1,4 +1,6 @@
 // The secrets derived from those of the stages (RFC 8446, section 7.1). A key is prepared once for all that is derived from it.
+#![tactic(auto)]
+
 ghost use Rattle.std.specs.Prelude.{◌≡◌, [], take};
 ghost use Rattle.buffer.specs.Buffer.{placed};
 ghost use Rattle.suite.specs.Suite.{hash_length};
@@ -11,14 +13,14 @@ use schedule::{derive, over_nothing};
 use suite::Suite;
 
 // client_early_traffic_secret and early_exporter_master_secret: over the ClientHello.
-#[derive(Drop)]
+#[derive(Clone, Copy)]
 pub struct EarlySecrets {
     pub client: [u8; 48],
     pub exporter: [u8; 48],
 }
 
 // client_handshake_traffic_secret and server_handshake_traffic_secret: up to the ServerHello.
-#[derive(Drop)]
+#[derive(Clone, Copy)]
 pub struct HandshakeSecrets {
     pub client: [u8; 48],
     pub server: [u8; 48],
@@ -26,7 +28,7 @@ pub struct HandshakeSecrets {
 
 // client_application_traffic_secret_0, server_application_traffic_secret_0 and exporter_master_secret: up to the server's
 // Finished.
-#[derive(Drop)]
+#[derive(Clone, Copy)]
 pub struct ApplicationSecrets {
     pub client: [u8; 48],
     pub server: [u8; 48],

@@ -1,4 +1,6 @@
 // Early: the secrets for early data.
+#![tactic(auto)]
+
 ghost use Rattle.std.specs.Prelude.{◌≡◌, []};
 ghost use Rattle.book.specs.Call.{Call};
 ghost use Rattle.book.specs.Refusals.{early_number};

@@ -1,4 +1,6 @@
 // The hash of nothing, which the schedule asks for again and again.
+#![tactic(auto)]
+
 ghost use Rattle.std.specs.Prelude.{◌≡◌, []};
 ghost use Rattle.buffer.specs.Buffer.{placed};
 ghost use Rattle.suite_hash.specs.Hash.{hash};

@@ -1,4 +1,6 @@
 // A session to the bytes that a caller keeps.
+#![tactic(auto)]
+
 ghost use Rattle.std.specs.Prelude.{◌≡◌, cond, ◌++◌, ◌+◌, ◌≤◌, length, eqb};
 ghost use Rattle.buffer.specs.Buffer.{after, behind};
 ghost use Rattle.buffer.specs.Numbers.{le};

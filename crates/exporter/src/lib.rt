@@ -1,4 +1,6 @@
 // TLS-Exporter (RFC 8446, section 7.5).
+#![tactic(auto)]
+
 ghost use Rattle.std.specs.Prelude.{length, take};
 ghost use Rattle.refusal.specs.Answered.{Answered};
 ghost use Rattle.suite.specs.Suite.{hash_length, max_label};

@@ -1,4 +1,6 @@
 // HMAC (RFC 2104), and HKDF-Extract (RFC 5869), which is HMAC with the salt as its key, as calls.
+#![tactic(auto)]
+
 ghost use Rattle.std.specs.Prelude.{◌≡◌, length};
 ghost use Rattle.refusal.specs.Answered.{Answered};
 ghost use Rattle.hmac.specs.Rfc2104.{hmac};

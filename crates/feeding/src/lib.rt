@@ -1,4 +1,6 @@
 // Feed: one whole handshake message.
+#![tactic(auto)]
+
 mod messages;
 mod numbers;
 

@@ -1,4 +1,6 @@
 // The calls that blank a session's bytes, as those of `ffi`: a fresh session, and Close. include/bindcricket.h declares them.
+#![tactic(auto)]
+
 ghost use Rattle.std.specs.Prelude.{[]};
 ghost use Rattle.book.specs.Call.{Call};
 ghost use Rattle.lent.specs.Called.{Called, MadeFresh, numbered};

@@ -1,4 +1,6 @@
 // Words and bytes, high byte first (FIPS 180-4, section 3.1).
+#![tactic(auto)]
+
 ghost use Rattle.std.specs.Prelude.{◌≡◌, ◌+◌, ◌*◌};
 ghost use Rattle.fips180.specs.Words.{bytes_of};
 

@@ -1,4 +1,6 @@
 // Handshake: the shared secret.
+#![tactic(auto)]
+
 mod groups;
 mod numbers;
 

@@ -1,4 +1,6 @@
 // Bytes as hex digits.
+#![tactic(auto)]
+
 ghost use Rattle.std.specs.Prelude.{◌≡◌, ◌*◌, ◌≤◌, length};
 ghost use Rattle.buffer.specs.Buffer.{after, behind, fronted};
 ghost use Rattle.hex_text.specs.Hex.{hex_value, hex_digit, hex_of, hex_run, unhex, read_hex, out_of};

@@ -12,8 +12,8 @@ ghost use Rattle.hkdf.specs.Refusals.{expand_number};
 use super::numbers::expand_number;
 use hmac::{close, prepare};
 use refusal::Answer;
-use suite_hash::running::absorb_in_place;
 use suite::Suite;
+use suite_hash::running::absorb_in_place;
 
 // Absorbs the block before, the info in its four parts and the next block's number, after a pad. Answers the count after it.
 fn absorb_parts(

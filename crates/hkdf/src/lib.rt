@@ -1,4 +1,6 @@
 // HKDF-Expand (RFC 5869), and HKDF-Expand-Label and Derive-Secret (RFC 8446, section 7.1).
+#![tactic(auto)]
+
 pub mod expand;
 pub mod label;
 mod numbers;

@@ -1,16 +1,18 @@
 // HMAC (RFC 2104) under a key that is prepared once. Every function here is total: the calls above judge lengths.
+#![tactic(auto)]
+
 ghost use Rattle.std.specs.Prelude.{◌≡◌, ◌++◌, length, take};
 ghost use Rattle.suite.specs.Suite.{block_length};
 ghost use Rattle.suite_hash.specs.Running.{run};
 ghost use Rattle.hmac.specs.Rfc2104.{key_block, xor_each};
 ghost use Rattle.hmac.specs.Keyed.{keyed_of, closed, mac_of};
 
+use suite::Suite;
 use suite_hash::blocks::{fold, initial};
 use suite_hash::running::{absorb_in_place, finish_in_place};
-use suite::Suite;
 
 // A key ready for use: the hash value after each of its pads.
-#[derive(Drop)]
+#[derive(Clone, Copy)]
 pub struct Keyed {
     pub inner: [u64; 8],
     pub outer: [u64; 8],

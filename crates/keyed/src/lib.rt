@@ -1,5 +1,7 @@
 // A secret prepared as a key, HKDF-Extract, and the first block of HKDF-Expand-Label under such a key. Every function here
 // is total: the calls above it judge lengths.
+#![tactic(auto)]
+
 ghost use Rattle.std.specs.Prelude.{◌≡◌, [], ◌∷◌, ◌++◌, length, take};
 ghost use Rattle.buffer.specs.Buffer.{placed};
 ghost use Rattle.suite.specs.Suite.{hash_length, block_length};
@@ -13,8 +15,8 @@ ghost use Rattle.keyed.specs.Blocks.{label_block};
 
 use hkdf::MAX_MESSAGE;
 use hmac::{Keyed, close, mac, prepare};
-use suite_hash::running::absorb_in_place;
 use suite::Suite;
+use suite_hash::running::absorb_in_place;
 
 // A secret in its place of 48 bytes, as a prepared key.
 pub fn ready(suite: u16, secret: [u8; 48]) -> Keyed

@@ -1,4 +1,6 @@
 // What a call on a lent session answers, and what it leaves in the buffer.
+#![tactic(auto)]
+
 ghost use Rattle.std.specs.Prelude.{◌≡◌, cond, length, eqb};
 ghost use Rattle.refusal.specs.Refusal.{number};
 ghost use Rattle.encoding.specs.Encoding.{session_bytes, encoded};

@@ -1,4 +1,6 @@
 // The session where it lies: the two calls that change the record that a modem keeps for as long as its link is up.
+#![tactic(auto)]
+
 ghost use Rattle.book.specs.Call.{Call};
 ghost use Rattle.session.specs.Promise.{Done, plain};
 

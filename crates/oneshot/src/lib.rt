@@ -1,13 +1,15 @@
 // The hash of a whole input.
+#![tactic(auto)]
+
 ghost use Rattle.std.specs.Prelude.{◌≡◌, ◌≤◌, length, take};
 ghost use Rattle.buffer.specs.Buffer.{after, placed};
 ghost use Rattle.refusal.specs.Answered.{Answered};
 ghost use Rattle.suite_hash.specs.Hash.{hash, hash_number, max_input};
 
 use refusal::{Answer, refuse_if};
+use suite::Suite;
 use suite_hash::blocks::initial;
 use suite_hash::running::{absorb_in_place, finish_in_place};
-use suite::Suite;
 
 // The longest input that is taken.
 pub const MAX_INPUT: usize = 2097152;

@@ -1,4 +1,6 @@
 // Begin: suite, PSK kind and PSK.
+#![tactic(auto)]
+
 ghost use Rattle.std.specs.Prelude.{◌≡◌, not, [], eqb, take};
 ghost use Rattle.suite.specs.Suite.{hash_length};
 ghost use Rattle.hkdf.specs.Rfc8446.{derive_secret};

@@ -5,7 +5,7 @@ ghost use Rattle.perform.specs.Encoding.{header_at, fits};
 use buffer::byte_at;
 use frames::{number2, number4};
 
-#[derive(Drop)]
+#[derive(Clone, Copy)]
 pub struct Header {
     pub kind: u8,
     pub small: u8,

@@ -1,4 +1,6 @@
 // Performs any list of calls that is given as bytes (specs/Encoding), from a fresh session.
+#![tactic(auto)]
+
 pub mod encoded;
 
 ghost use Rattle.std.specs.Prelude.{◌≡◌, List};

@@ -1,5 +1,7 @@
 // Writes the journal of a list of calls: text on standard input, the journal on standard output. Of a text that has a bad
 // line only a message is written, on standard error.
+#![tactic(auto)]
+
 mod message;
 
 use libc::{STDIN_FILENO, STDOUT_FILENO};

@@ -1,4 +1,6 @@
 // Reads a journal from standard input, replays it on a fresh session, and prints a line for each record.
+#![tactic(auto)]
+
 use libc::{STDIN_FILENO, STDOUT_FILENO};
 
 // Room for one byte more than the longest journal, and for the longest text.

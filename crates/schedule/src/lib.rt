@@ -1,5 +1,7 @@
 // The key schedule of RFC 8446, section 7: values only, no state. A secret, and the hash of the messages so far, lies in 48
 // bytes with zeros behind it. Here is what every derivation shares: Derive-Secret given the hash of the messages.
+#![tactic(auto)]
+
 ghost use Rattle.std.specs.Prelude.{◌≡◌, [], take};
 ghost use Rattle.suite.specs.Suite.{hash_length};
 ghost use Rattle.suite_hash.specs.Hash.{hash};

@@ -1,4 +1,6 @@
 // The session of document 01: its record, a fresh one, and Close.
+#![tactic(auto)]
+
 pub mod close;
 
 ghost use Rattle.std.specs.Prelude.{◌≡◌};
@@ -12,7 +14,7 @@ use suite_hash::running::Running;
 // Numbers and arrays only, so that every bit pattern is a session; and no padding, so that two sessions with equal fields are
 // equal in every byte. Each secret lies in 48 bytes with zeros behind it. kind is the PSK's, early is 1 once Early was
 // accepted, stage is how far the messages have come (book::points), transcript the running hash of the messages fed.
-#[derive(Drop)]
+#[derive(Clone, Copy)]
 pub struct Session {
     pub suite: u16,
     pub kind: u8,
@@ -35,7 +37,7 @@ pub struct Session {
 }
 
 // What a call that may change the session gives back: the session after it, and its answer.
-#[derive(Drop)]
+#[derive(Clone, Copy)]
 pub struct Outcome {
     pub session: Session,
     pub answer: Answer,

@@ -1,4 +1,6 @@
 // The hash value after whole blocks, and the digest, of SHA-256 (FIPS 180-4, section 6.2).
+#![tactic(auto)]
+
 ghost use Rattle.std.specs.Prelude.{◌≡◌, ◌++◌, ◌/◌, length};
 ghost use Rattle.buffer.specs.Buffer.{zeros};
 ghost use Rattle.fips180.specs.Variant.{sha256};

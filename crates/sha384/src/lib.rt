@@ -1,4 +1,6 @@
 // The hash value after whole blocks, and the digest, of SHA-384 (FIPS 180-4, section 6.4).
+#![tactic(auto)]
+
 ghost use Rattle.std.specs.Prelude.{◌≡◌, ◌++◌, ◌/◌, length};
 ghost use Rattle.buffer.specs.Buffer.{zeros};
 ghost use Rattle.fips180.specs.Variant.{sha384};

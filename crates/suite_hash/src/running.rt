@@ -10,7 +10,7 @@ use suite::Suite;
 // The hash value of the whole blocks so far, the bytes since then with zeros behind them, and the
 // number of bytes so far. One form serves both hashes: SHA-256 uses the low halves of the words and
 // the first 64 bytes of the block.
-#[derive(Drop)]
+#[derive(Clone, Copy)]
 pub struct Running {
     pub state: [u64; 8],
     pub block: [u8; 128],

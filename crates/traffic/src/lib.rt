@@ -1,4 +1,6 @@
 // What is made of a traffic secret: the next one (RFC 8446, section 7.2), key and IV (7.3), verify_data (4.4.4).
+#![tactic(auto)]
+
 ghost use Rattle.std.specs.Prelude.{◌≡◌, take};
 ghost use Rattle.buffer.specs.Buffer.{placed};
 ghost use Rattle.suite.specs.Suite.{hash_length};
@@ -11,7 +13,7 @@ use oneshot::digest;
 use suite::Suite;
 
 // write_key and write_iv, each with zeros behind it.
-#[derive(Drop)]
+#[derive(Clone, Copy)]
 pub struct TrafficKeys {
     pub key: [u8; 48],
     pub iv: [u8; 48],

@@ -1,5 +1,7 @@
 // Test vectors: reads one vector a line from standard input and prints one line for each, the
 // vector's name and its value.
+#![tactic(auto)]
+
 mod calling;
 mod drafts;
 mod hashing;

@@ -1,0 +1,14 @@
+use Rattle.std.proofs.Common.{lit<}
+use Rattle.fips180.specs.Words.{rotations_shift, shr}
+use Rattle.fips180.specs.Variant.{sha256, σ0}
+use Rattle.compress256.proofs.functions.lower0.Goals as goal
+
+pub returns : goal.returns
+unfolding σ0 rotations_shift shr sha256
+returns c = cc
+
+pub rotr-requires : goal.rotr-requires
+rotr-requires c = (lit< tt, lit< tt)
+
+pub rotr-requires-2 : goal.rotr-requires-2
+rotr-requires-2 c = (lit< tt, lit< tt)

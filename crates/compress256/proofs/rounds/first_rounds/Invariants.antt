@@ -1,0 +1,11 @@
+use Rattle.std.proofs.Common.{◌≡◌, ◌-◌, ◌≤◌, ap, ◌∙◌, add-one, arith}
+use Rattle.fips180.specs.Variant.{sha256}
+use Rattle.fips180.specs.Rows.{rounds_with}
+use Rattle.fips180.proofs.Rows.{rounds-none, rounds-next}
+use Rattle.compress256.proofs.rounds.first_rounds.Given as goal
+
+abbrev pub invariant-loop-i : goal.invariant-loop-i
+invariant-loop-i l = (l.i ≤ 8) × (l.x ≡ rounds_with sha256 l.initial.x l.k l.w l.i)
+
+abbrev pub decreases-loop-i : goal.decreases-loop-i
+decreases-loop-i l = 8 - l.i

@@ -1,0 +1,11 @@
+use Rattle.std.proofs.Common.{◌≡◌, ◌-◌, ◌≤◌, length, ap, ◌∙◌, add-one, arith, length-set}
+use Rattle.fips180.specs.Variant.{sha256}
+use Rattle.fips180.specs.Rows.{advanced}
+use Rattle.fips180.proofs.Rows.{advanced-none, advanced-next}
+use Rattle.compress256.proofs.rounds.first_words.Given as goal
+
+abbrev pub invariant-loop-i : goal.invariant-loop-i
+invariant-loop-i l = (l.i ≤ 8) × (l.w ≡ advanced sha256 l.initial.w l.i) × (length l.w ≡ 16)
+
+abbrev pub decreases-loop-i : goal.decreases-loop-i
+decreases-loop-i l = 8 - l.i

@@ -1,0 +1,13 @@
+use Rattle.std.proofs.Common.{◌≡◌, ℕ, ◌+◌, ◌-◌, ◌*◌, ◌<◌, ◌≤◌, List, length, get_or, take, refl, ap, ◌∙◌, arith, length-set}
+use Rattle.fips180.specs.Variant.{sha256}
+use Rattle.fips180.specs.Rows.{constants_at}
+use Rattle.fips180.proofs.Filling.{fill_step, fill_done, constants_length, constants_at_lem}
+use Rattle.compress256.proofs.rounds.row.Given as goal
+
+abbrev pub invariant-loop-i : goal.invariant-loop-i
+invariant-loop-i l =
+    (l.i ≤ 16) × (take l.i l.k ≡ take l.i (constants_at sha256 l.q)) × (length l.k ≡ 16) × (length (constants_at sha256 l.q) ≡ 16)
+    × (l.q < 4) × (l.table ≡ sha256.K)
+
+abbrev pub decreases-loop-i : goal.decreases-loop-i
+decreases-loop-i l = 16 - l.i

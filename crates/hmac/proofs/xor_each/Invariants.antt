@@ -1,0 +1,15 @@
+use Rattle.hmac.proofs.Pads.{xor_in_place, length-xor}
+use Rattle.hmac.specs.Rfc2104.{xor_each}
+use lib.Seq.{take_all}
+use lib.ListN.{length, take, drop, length-set}
+use Prim.Native.Nat.{◌-◌, ◌≤◌}
+use native.Mathlib.Omega.{arith}
+use mathlib.Core.Path.{◌≡◌, refl, sym, ◌∙◌}
+use Rattle.hmac.proofs.xor_each.Given as goal
+
+abbrev pub invariant-loop-i : goal.invariant-loop-i
+invariant-loop-i l =
+    (l.i ≤ length l.initial.block) × (length l.block ≡ length l.initial.block) × (take l.i l.block ≡ take l.i (xor_each l.c l.initial.block)) × (drop l.i l.block ≡ drop l.i l.initial.block)
+
+abbrev pub decreases-loop-i : goal.decreases-loop-i
+decreases-loop-i l = length l.initial.block - l.i

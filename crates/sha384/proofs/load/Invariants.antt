@@ -1,0 +1,15 @@
+use Prim.Native.Nat.{ℕ, ◌≤◌, ◌-◌, ◌*◌}
+use mathlib.Core.Path.{◌≡◌, refl, sym, ap, ◌∙◌}
+use native.Mathlib.Omega.{arith}
+use lib.ListN.{length, take, length-set}
+use lib.Seq.{take_all}
+use Rattle.fips180.specs.Variant.{sha384}
+use Rattle.fips180.specs.Padding.{words_of}
+use Rattle.fips180.proofs.Words.{load_step, word8}
+use Rattle.sha384.proofs.load.Given as goal
+
+abbrev pub invariant-loop-i : goal.invariant-loop-i
+invariant-loop-i l = (l.i ≤ 16) × (take l.i l.w ≡ words_of sha384 l.i l.b) × (length l.w ≡ 16) × (length l.b ≡ 128)
+
+abbrev pub decreases-loop-i : goal.decreases-loop-i
+decreases-loop-i l = 16 - l.i

@@ -1,0 +1,12 @@
+use Rattle.suite_hash.proofs.Turns.{compress_is}
+use Rattle.suite_hash.proofs.Sound.{sound, block_len}
+use Rattle.std.proofs.Common.{◌∙◌, arith, length-take, rules}
+use Rattle.suite_hash.proofs.blocks.compress.Goals as goal
+
+pub slice_bounds-fold-end : goal.slice_bounds-fold-end
+slice_bounds-fold-end c = simp length-take (omega arith)
+
+pub returns : goal.returns
+returns c =
+    let a = c.args in
+    compress_is _ (sound _) a.s.now a.p.now c.requires (c.block_len-b.ensures.0 ∙ block_len _) c.fold.ensures
