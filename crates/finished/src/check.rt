@@ -11,8 +11,8 @@ use super::values::base_place;
 use refusal::Answer;
 use refusal::verdict::Verdict;
 use session::Session;
-use suite_hash::running::finish;
 use suite::Suite;
+use suite_hash::running::finish;
 use traffic::verify_data;
 
 // The verdict of a decided number.

@@ -15,8 +15,8 @@ use chain_secrets::early_secret;
 use derived_secrets::binder_key;
 use refusal::{Answer, refuse_if};
 use session::{Outcome, Session, fresh};
-use suite_hash::running::start;
 use suite::Suite;
+use suite_hash::running::start;
 
 const MAX_PSK: usize = 128;
 

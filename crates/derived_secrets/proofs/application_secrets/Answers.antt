@@ -12,7 +12,7 @@ unfolding label
 returns c =
     let h = c.hash_len-h.ensures.0 in
     let k = c.ready-k.ensures in (
-      secret_is _ Secret.client-application _ _ k (over_hash _ _ _ _ h c.derive-client.ensures),
-      secret_is _ Secret.server-application _ _ k (over_hash _ _ _ _ h c.derive-server.ensures),
+      secret_is _ Secret.client_application _ _ k (over_hash _ _ _ _ h c.derive-client.ensures),
+      secret_is _ Secret.server_application _ _ k (over_hash _ _ _ _ h c.derive-server.ensures),
       secret_is _ Secret.exporter _ _ k (over_hash _ _ _ _ h c.derive-exporter.ensures),
     )

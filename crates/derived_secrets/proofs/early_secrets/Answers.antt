@@ -12,6 +12,6 @@ unfolding label
 returns c =
     let h = c.hash_len-h.ensures.0 in
     let k = c.ready-k.ensures in (
-      secret_is _ Secret.client-early _ _ k (over_hash _ _ _ _ h c.derive-client.ensures),
-      secret_is _ Secret.early-exporter _ _ k (over_hash _ _ _ _ h c.derive-exporter.ensures),
+      secret_is _ Secret.client_early _ _ k (over_hash _ _ _ _ h c.derive-client.ensures),
+      secret_is _ Secret.early_exporter _ _ k (over_hash _ _ _ _ h c.derive-exporter.ensures),
     )

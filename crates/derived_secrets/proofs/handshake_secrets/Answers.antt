@@ -12,6 +12,6 @@ unfolding label
 returns c =
     let h = c.hash_len-h.ensures.0 in
     let k = c.ready-k.ensures in (
-      secret_is _ Secret.client-handshake _ _ k (over_hash _ _ _ _ h c.derive-client.ensures),
-      secret_is _ Secret.server-handshake _ _ k (over_hash _ _ _ _ h c.derive-server.ensures),
+      secret_is _ Secret.client_handshake _ _ k (over_hash _ _ _ _ h c.derive-client.ensures),
+      secret_is _ Secret.server_handshake _ _ k (over_hash _ _ _ _ h c.derive-server.ensures),
     )

@@ -1,5 +1,4 @@
 use Prim.Native.Nat.{ℕ, ◌≤◌}
-use mathlib.Core.Logic.{⊎_elim}
 use mathlib.Core.Path.{refl, sym, ap, ◌∙◌, subst}
 use Rattle.book.specs.Call.Call.{Feed}
 use Rattle.book.specs.Call.{lent}
@@ -10,6 +9,7 @@ use Rattle.book.proofs.Books.{good}
 use Rattle.session.proofs.Calls.{end_refused, end_accepted}
 use Rattle.feeding.proofs.Feeding.{feed_is, feed_taken, fed_running, fed}
 use Rattle.feeding.proofs.feed.Goals as goal
+use Rattle.feeding.proofs.feed.Goals.{then-number-eq0, else-number-eq0}
 
 pub returns : goal.returns
 unfolding lent written verdict
@@ -17,12 +17,15 @@ returns c = let a = c.args in
     let m = a.message.now in
     let n = c.feed_number-number.ensures in
     let is = feed_is a.s m n in
-    ⊎_elim
-    (λ w. end_accepted a.s (Feed m) c.decided.result refl is c.decided.ensures (λ b. refl) (λ b. refl) w.0.taken
-    w.5
-    (λ b r e y. let t = feed_taken b m y in
-    fed b m a.s _ _ (good r) t.where-taken e (fed_running a.s b m e t w.2.ensures)
-    (w.4.ensures ∙ ap (stage_after a.s.stage) w.3.ensures)))
-    (λ w. end_refused a.s (Feed m) c.decided.result refl is c.decided.ensures
-    (subst (λ (k : ℕ). k ≤ 13) (sym n) (feed_small _ _ _ _)) w.0.left w.1)
-    c.if-number-eq0.branch
+    elim c.if-number-eq0.branch [
+      then-number-eq0 w ↦
+        end_accepted a.s (Feed m) c.decided.result refl is c.decided.ensures (λ b. refl) (λ b. refl) w.if-number-eq0.true
+        w.s-is
+        (λ b r e y.
+          let t = feed_taken b m y in
+          fed b m a.s _ _ (good r) t.where_taken e (fed_running a.s b m e t w.absorb-transcript.ensures)
+          (w.stage_after-stage.ensures ∙ ap (stage_after a.s.stage) w.byte_at-first.ensures))
+    | else-number-eq0 w ↦
+        end_refused a.s (Feed m) c.decided.result refl is c.decided.ensures
+        (subst (λ (k : ℕ). k ≤ 13) (sym n) (feed_small _ _ _ _)) w.if-number-eq0.false w.s-is
+    ]

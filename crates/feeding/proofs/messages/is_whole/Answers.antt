@@ -1,4 +1,3 @@
-
 use Rattle.feeding.proofs.messages.is_whole.Goals as goal
 
 pub returns : goal.returns

@@ -1,4 +1,3 @@
-
 use Rattle.feeding.proofs.messages.stage_after.Goals as goal
 
 pub returns : goal.returns

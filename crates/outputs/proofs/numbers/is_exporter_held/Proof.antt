@@ -1,8 +1,0 @@
-use Rattle.outputs.proofs.numbers.is_exporter_held.Statement.{statement}
-use Rattle.outputs.proofs.numbers.is_exporter_held.Tie as tie
-
-returns : tie.Need-returns
-returns c = rw (c.is-application-held.ensures, c.before.is-early-held.ensures)
-
-pub is-exporter-held-spec : {M : Type 1} → statement M
-is-exporter-held-spec = tie.close (tie.spec (λ c κs. tt) (λ c κs. tt) returns)
