@@ -9,7 +9,7 @@ use prog.Routine.{Routine}
 use types.Logic.{Logic}
 use contract.Lifetimes.{Lfts}
 use contract.Monad.{Fun, fact}
-use denote.Ref.{Bor}
+use denote.Ref.{Bor, MutBor}
 use denote.Triple.Clauses.{AtExit}
 use borrow.Fn.Kinds.{ended_of}
 use Rattle.refusal.specs.declared.Answer.{Answer}
@@ -125,20 +125,20 @@ close_promises s r x = refl
 close_asks : (s : Session) → close-reads.Asked tt (s, tt) ≡ Unit {0}
 close_asks s = refl
 
-keys_promises : (κs : Lfts 1) (s : Session) (name : ℕ) (out : Bor (List ℕ)) (r : Answer)
+keys_promises : (κs : Lfts 1) (s : Session) (name : ℕ) (out : MutBor (List ℕ)) (r : Answer)
     (x : AtExit (ended_of 1 keys-kinds.ps keys-kinds.r) κs) → keys-reads.Learnt κs (s, (name, (out, tt))) r x ≡ Done s
     (Keys name out.now) s (wrote r x.1.1.0.now)
 keys_promises κs s name out r x = refl
 
-keys_asks : (κs : Lfts 1) (s : Session) (name : ℕ) (out : Bor (List ℕ)) → keys-reads.Asked κs (s, (name, (out, tt))) ≡ Unit {0}
+keys_asks : (κs : Lfts 1) (s : Session) (name : ℕ) (out : MutBor (List ℕ)) → keys-reads.Asked κs (s, (name, (out, tt))) ≡ Unit {0}
 keys_asks κs s name out = refl
 
-finished_promises : (κs : Lfts 1) (s : Session) (side : ℕ) (out : Bor (List ℕ)) (r : Answer)
+finished_promises : (κs : Lfts 1) (s : Session) (side : ℕ) (out : MutBor (List ℕ)) (r : Answer)
     (x : AtExit (ended_of 1 finished-kinds.ps finished-kinds.r) κs) → finished-reads.Learnt κs (s, (side, (out, tt))) r x ≡ Done
     s (Finished side out.now) s (wrote r x.1.1.0.now)
 finished_promises κs s side out r x = refl
 
-finished_asks : (κs : Lfts 1) (s : Session) (side : ℕ) (out : Bor (List ℕ)) → finished-reads.Asked κs (s, (side, (out, tt))) ≡
+finished_asks : (κs : Lfts 1) (s : Session) (side : ℕ) (out : MutBor (List ℕ)) → finished-reads.Asked κs (s, (side, (out, tt))) ≡
     Unit {0}
 finished_asks κs s side out = refl
 
@@ -151,44 +151,44 @@ check_asks : (κs : Lfts 1) (s : Session) (side : ℕ) (received : Bor (List ℕ
     (s, (side, (received, tt))) ≡ Unit {0}
 check_asks κs s side received = refl
 
-binder_promises : (κs : Lfts 2) (s : Session) (hello : Bor (List ℕ)) (out : Bor (List ℕ)) (r : Answer)
+binder_promises : (κs : Lfts 2) (s : Session) (hello : Bor (List ℕ)) (out : MutBor (List ℕ)) (r : Answer)
     (x : AtExit (ended_of 2 binder-kinds.ps binder-kinds.r) κs) → binder-reads.Learnt κs (s, (hello, (out, tt))) r x ≡ Done s
     (Binder hello.now out.now) s (wrote r x.1.1.0.now)
 binder_promises κs s hello out r x = refl
 
-binder_asks : (κs : Lfts 2) (s : Session) (hello : Bor (List ℕ)) (out : Bor (List ℕ)) → binder-reads.Asked κs
+binder_asks : (κs : Lfts 2) (s : Session) (hello : Bor (List ℕ)) (out : MutBor (List ℕ)) → binder-reads.Asked κs
     (s, (hello, (out, tt))) ≡ Unit {0}
 binder_asks κs s hello out = refl
 
 export_promises : (κs : Lfts 3) (s : Session) (name : ℕ) (label : Bor (List ℕ)) (context : Bor (List ℕ)) (asked : ℕ)
-    (out : Bor (List ℕ)) (r : Answer)
+    (out : MutBor (List ℕ)) (r : Answer)
     (x : AtExit (ended_of 3 export-kinds.ps export-kinds.r) κs) → export-reads.Learnt κs
     (s, (name, (label, (context, (asked, (out, tt)))))) r x ≡ Done s (Export name label.now context.now asked out.now)
     s (wrote r x.1.1.1.1.1.0.now)
 export_promises κs s name label context asked out r x = refl
 
 export_asks : (κs : Lfts 3) (s : Session) (name : ℕ) (label : Bor (List ℕ)) (context : Bor (List ℕ)) (asked : ℕ)
-    (out : Bor (List ℕ)) → export-reads.Asked κs (s, (name, (label, (context, (asked, (out, tt)))))) ≡ Unit {0}
+    (out : MutBor (List ℕ)) → export-reads.Asked κs (s, (name, (label, (context, (asked, (out, tt)))))) ≡ Unit {0}
 export_asks κs s name label context asked out = refl
 
 -- The two on the session where it lies: the same, of the clauses of their contracts in any model.
 module _ {M : Type 1} {𝓤 : Ura M} (𝓛 : Logic 𝓤) (at_mem : Memory → SProp 𝓤) (run : Routine → Fun 𝓤) where
-  feed_in_place_promises : (κs : Lfts 2) (s : Bor Session) (message : Bor (List ℕ)) (r : Answer)
+  feed_in_place_promises : (κs : Lfts 2) (s : MutBor Session) (message : Bor (List ℕ)) (r : Answer)
       (x : AtExit feed-in-place.ended κs)
       → (feed-in-place.clauses 𝓛 at_mem run κs (s, (message, tt))).ensures tt r x
       ≡ fact 𝓤 (Done s.now (Feed message.now) x.0.now (plain r))
   feed_in_place_promises κs s message r x = refl
 
-  feed_in_place_asks : (κs : Lfts 2) (s : Bor Session) (message : Bor (List ℕ))
+  feed_in_place_asks : (κs : Lfts 2) (s : MutBor Session) (message : Bor (List ℕ))
       → (feed-in-place.clauses 𝓛 at_mem run κs (s, (message, tt))).requires tt ≡ emp 𝓤
   feed_in_place_asks κs s message = refl
 
-  update_in_place_promises : (κs : Lfts 1) (s : Bor Session) (side : ℕ) (r : Answer) (x : AtExit update-in-place.ended κs)
+  update_in_place_promises : (κs : Lfts 1) (s : MutBor Session) (side : ℕ) (r : Answer) (x : AtExit update-in-place.ended κs)
       → (update-in-place.clauses 𝓛 at_mem run κs (s, (side, tt))).ensures tt r x
       ≡ fact 𝓤 (Done s.now (Update side) x.0.now (plain r))
   update_in_place_promises κs s side r x = refl
 
-  update_in_place_asks : (κs : Lfts 1) (s : Bor Session) (side : ℕ)
+  update_in_place_asks : (κs : Lfts 1) (s : MutBor Session) (side : ℕ)
       → (update-in-place.clauses 𝓛 at_mem run κs (s, (side, tt))).requires tt ≡ emp 𝓤
   update_in_place_asks κs s side = refl
 
