@@ -184,12 +184,12 @@ turn list old s after at used lent h ys g eh f d ey =
     turn_by g.fuel list old s after at used lent h ys g.events g.run g.all g.enough g.same g.behind eh f d ey
 
 -- the same, from what the code has
-pub whole_tells : (h : Header) (size lent at used : ℕ) {t : Bool} → t ≡ fits h size lent at used → not t ≡ false
+pub whole_tells : (h : Header) (size lent at used : ℕ) {t : Bool} → t ≡ fits h size lent at used → t ≡ true
     → (at + 20 + h.first + h.second ≤ size) × (used + h.room ≤ lent)
-whole_tells h size lent at used {t} e f = fits-tells h size lent at used (sym e ∙ not-false t f)
+whole_tells h size lent at used {t} e f = fits-tells h size lent at used (sym e ∙ f)
 
 pub turned : (list old : List ℕ) (s after : Session) (at used : ℕ) (lent : List ℕ) (h : Header) (ys : List ℕ) {t : Bool}
-    → Going list old s at used lent → h ≡ header_at list at → t ≡ fits h (length list) (length lent) at used → not t ≡ false
+    → Going list old s at used lent → h ≡ header_at list at → t ≡ fits h (length list) (length lent) at used → t ≡ true
     → (given : Reply)
     × Done s
     (call_of h.kind h.small h.wide h.asked (take (at + 20 + h.first - (at + 20)) (drop (at + 20) list))
@@ -207,7 +207,7 @@ turned list old s after at used lent h ys {t} g eh e f d ey =
     let b = whole_tells h (length list) (length lent) at used e f in
     let l : length (take (used + h.room - used) (drop used lent)) ≡ h.room = simp (length-take, length-drop) (omega (arith, b.1)) in
     rw r
-    (turn list old s after at used lent h ys g eh (sym e ∙ not-false t f) (made s h list lent at used after _ _ _ p q r d) (ey ∙ l))
+    (turn list old s after at used lent h ys g eh (sym e ∙ f) (made s h list lent at used after _ _ _ p q r d) (ey ∙ l))
 
 -- what `perform` promises
 abbrev pub Performed : List ℕ → List ℕ → Session → Type 0
@@ -215,10 +215,10 @@ Performed list old s = (events : List Event) × (calls events ≡ decoded list o
 
 -- the record at index at does not fit, or index at is the end
 pub ended : (list old : List ℕ) (s : Session) (at used : ℕ) (lent : List ℕ) (h : Header) → Going list old s at used lent
-    → h ≡ header_at list at → {t : Bool} → t ≡ fits h (length list) (length lent) at used → not t ≡ true → Performed list old s
+    → h ≡ header_at list at → {t : Bool} → t ≡ fits h (length list) (length lent) at used → t ≡ false → Performed list old s
 ended list old s at used lent h g eh {t} e f =
     let fit : fits (header_at list at) (length list) (length old) at used ≡ false =
-    rw (sym eh, sym g.same) (sym e ∙ not-true t f) in
+    rw (sym eh, sym g.same) (sym e ∙ f) in
     let none = none-by g.fuel list old at used fit in
     (g.events, sym (append-nil (calls g.events)) ∙ ap (λ (l : List Call). calls g.events ++ l) (sym none) ∙ g.all, g.run)
 
