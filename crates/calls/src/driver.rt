@@ -9,7 +9,7 @@ use frames::{Frame, read};
 use session::{Session, fresh};
 
 // The session, the number of records, and whether the last of them is bad.
-#[derive(Drop)]
+#[derive(Clone, Copy)]
 struct Ran {
     session: Session,
     records: u64,

@@ -5,7 +5,7 @@ use frames::number4;
 
 // A field of a payload: whether it is there, and the indices of its first byte and of the byte
 // behind it.
-#[derive(Drop)]
+#[derive(Clone, Copy)]
 pub(crate) struct Field {
     pub(crate) there: bool,
     pub(crate) from: usize,

@@ -4,7 +4,7 @@ use refusal::Answer;
 use refusal::verdict::Verdict;
 use session::{Outcome, Session};
 
-#[derive(Drop)]
+#[derive(Clone, Copy)]
 pub(crate) enum Reply {
     // The record is no call that can be made.
     Bad,
@@ -41,7 +41,7 @@ impl Reply {
 }
 
 // The session after a call, and what the call comes to.
-#[derive(Drop)]
+#[derive(Clone, Copy)]
 pub(crate) struct Turn {
     pub(crate) session: Session,
     pub(crate) reply: Reply,

@@ -7,7 +7,7 @@ ghost use Rattle.hex_text.specs.Hex.{hex_value, hex_digit, hex_of, hex_run, unhe
 
 // What get_hex answers: how many bytes it read, or the index of the first character that is no
 // digit, finds no room, or is missing.
-#[derive(Drop)]
+#[derive(Clone, Copy)]
 pub enum HexRead {
     Bytes(usize),
     Bad(usize),

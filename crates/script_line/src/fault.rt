@@ -1,5 +1,5 @@
 // Why a line cannot be written to a journal.
-#[derive(Drop)]
+#[derive(Clone, Copy)]
 pub enum Fault {
     // The first word names no call.
     Name,

@@ -8,7 +8,7 @@ use super::number::{Small, Wide, hex_number, small_number};
 use super::word::{same, word};
 use journal::record::Call;
 
-#[derive(Drop)]
+#[derive(Clone, Copy)]
 pub(crate) enum Heading {
     // Nothing, or a comment.
     Blank,

@@ -9,7 +9,7 @@ use super::word::word;
 use hex_text::HexRead;
 use journal::record::Call;
 
-#[derive(Drop)]
+#[derive(Clone, Copy)]
 pub enum Line {
     // Nothing, or a comment.
     Blank,

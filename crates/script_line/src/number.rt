@@ -7,14 +7,14 @@ use hex_text::{HexRead, get_hex, hex_value};
 use text::decimal::{DecimalRead, get_decimal};
 
 // A suite or group.
-#[derive(Drop)]
+#[derive(Clone, Copy)]
 pub(crate) enum Wide {
     Number(u16),
     Bad,
 }
 
 // A PSK kind or side.
-#[derive(Drop)]
+#[derive(Clone, Copy)]
 pub(crate) enum Small {
     Number(u8),
     Bad,

@@ -4,7 +4,7 @@ ghost use Rattle.buffer.specs.Buffer.{after, behind};
 ghost use Rattle.text.specs.Decimal.{decimal_of, decimal_value, read_decimal};
 
 // What get_decimal answers.
-#[derive(Drop)]
+#[derive(Clone, Copy)]
 pub enum DecimalRead {
     Value(u64),
     Bad,

@@ -12,7 +12,7 @@ use refusal::Answer;
 use session::{Outcome, Session, fresh};
 use text::field::field_end;
 
-#[derive(Drop)]
+#[derive(Clone, Copy)]
 pub(crate) enum Change {
     Fresh,
     Begin,

@@ -120,7 +120,7 @@ fn answer_unit(suite: u16, times: u64, digits: &[u8])
     answer_message(suite, &unit[..n], n * times as usize);
 }
 
-#[derive(Drop)]
+#[derive(Clone, Copy)]
 pub(crate) enum SuiteRead {
     Number(u16),
     Bad,

@@ -14,7 +14,7 @@ use text::field::field_end;
 const MOST: u64 = 512;
 
 // An operation on a key and some bytes.
-#[derive(Drop)]
+#[derive(Clone, Copy)]
 pub(crate) enum Keying {
     Hmac,
     Extract,

@@ -6,7 +6,7 @@ use super::reading::Reading;
 use check::same;
 use text::field::field_end;
 
-#[derive(Drop)]
+#[derive(Clone, Copy)]
 pub(crate) enum Operation {
     Hash,
     Keying(Keying),

@@ -27,7 +27,7 @@ pub(crate) fn small(n: usize) -> u8 {
 }
 
 // Bytes that were read: whether they could be, and how many they are.
-#[derive(Drop)]
+#[derive(Clone, Copy)]
 pub(crate) struct Bytes {
     pub(crate) good: bool,
     pub(crate) len: usize,

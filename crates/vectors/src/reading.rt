@@ -6,7 +6,7 @@ use super::output::{say, say_hex, say_refused, say_written};
 use super::places::place;
 use session::Session;
 
-#[derive(Drop)]
+#[derive(Clone, Copy)]
 pub(crate) enum Reading {
     Place,
     Keys,
