@@ -9,7 +9,7 @@ use borrow.Author.Tests.{eqb-false}
 use Rattle.session.specs.declared.Session.{Session}
 use Rattle.book.specs.Call.{Call}
 use Rattle.book.specs.Book.{Book}
-use Rattle.book.specs.Refusals.{Reached, number, next}
+use Rattle.book.specs.Refusals.{Reached, next}
 use Rattle.book.specs.Refusals.Reached.{more}
 use Rattle.session.specs.Session.{session_of}
 use Rattle.session.specs.Promise.{Reply, reply, Done}

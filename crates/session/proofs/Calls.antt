@@ -1,5 +1,5 @@
 -- What a call did, from what its code did: one law for every refusal, one for every acceptance.
-use Prim.Native.Nat.{ℕ, ◌-◌, ◌≤◌, min, zero-le}
+use Prim.Native.Nat.{ℕ, ◌≤◌, min, zero-le}
 use mathlib.Core.Bool.{Bool, false, cond}
 use mathlib.Core.List.{List, []}
 use mathlib.Core.Path.{◌≡◌, refl, sym, ap, ◌∙◌, subst}

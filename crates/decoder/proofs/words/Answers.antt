@@ -1,7 +1,6 @@
-use Prim.Native.Nat.{◌-◌, ◌≤◌}
 use mathlib.Core.Path.{◌≡◌, refl}
 use native.Mathlib.Omega.{arith}
-use lib.ListN.{length, take, drop, length-set}
+use lib.ListN.{length, drop, length-set}
 use Rattle.encoding.specs.Words.{words}
 use Rattle.encoding.proofs.Laws.{length-words, word_read}
 use Rattle.fips180.proofs.Filling.{fill_step, fill_done}

@@ -1,11 +1,7 @@
 use Prim.Native.Nat.{◌-◌, ◌≤◌}
-use mathlib.Core.Path.{◌≡◌, refl}
-use native.Mathlib.Omega.{arith}
-use lib.ListN.{length, take, drop, length-set}
+use mathlib.Core.Path.{◌≡◌}
+use lib.ListN.{length, take, drop}
 use Rattle.encoding.specs.Words.{words}
-use Rattle.encoding.proofs.Laws.{length-words, word_read}
-use Rattle.fips180.proofs.Filling.{fill_step, fill_done}
-use borrow.Author.Rules.{rules}
 use Rattle.decoder.proofs.words.Given as goal
 
 abbrev pub invariant-loop-i : goal.invariant-loop-i

@@ -1,5 +1,3 @@
-use lib.ListN.{length-take}
-use native.Mathlib.Omega.{arith}
 use Rattle.schedule.proofs.Derivations.{secret_is, over_hash}
 use Rattle.schedule.specs.Labels.{Secret, label}
 use Rattle.derived_secrets.proofs.resumption_secret.Goals as goal

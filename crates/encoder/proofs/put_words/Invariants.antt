@@ -1,11 +1,8 @@
 use Prim.Native.Nat.{◌-◌, ◌≤◌, ◌+◌, ◌*◌}
 use mathlib.Core.Path.{◌≡◌}
-use native.Mathlib.Omega.{arith}
 use lib.ListN.{length, take}
 use Rattle.encoding.specs.Words.{le_words}
 use Rattle.encoder.specs.Over.{Over}
-use Rattle.encoder.proofs.Writing.{start, over_length, word_more, words-done}
-use borrow.Author.Rules.{rules}
 use Rattle.encoder.proofs.put_words.Given as goal
 
 abbrev pub invariant-loop-i : goal.invariant-loop-i

@@ -18,14 +18,14 @@ returns c = let a = c.args in
     let n = c.feed_number-number.ensures in
     let is = feed_is a.s m n in
     elim c.if-number-eq0.branch [
-      then-number-eq0 w ↦
-        end_accepted a.s (Feed m) c.decided.result refl is c.decided.ensures (λ b. refl) (λ b. refl) w.if-number-eq0.true
-        w.s-is
-        (λ b r e y.
+      | then-number-eq0 w ↦
+          end_accepted a.s (Feed m) c.decided.result refl is c.decided.ensures (λ b. refl) (λ b. refl) w.if-number-eq0.true
+          w.s-is
+          (λ b r e y.
           let t = feed_taken b m y in
           fed b m a.s _ _ (good r) t.where_taken e (fed_running a.s b m e t w.absorb-transcript.ensures)
           (w.stage_after-stage.ensures ∙ ap (stage_after a.s.stage) w.byte_at-first.ensures))
-    | else-number-eq0 w ↦
-        end_refused a.s (Feed m) c.decided.result refl is c.decided.ensures
-        (subst (λ (k : ℕ). k ≤ 13) (sym n) (feed_small _ _ _ _)) w.if-number-eq0.false w.s-is
+      | else-number-eq0 w ↦
+          end_refused a.s (Feed m) c.decided.result refl is c.decided.ensures
+          (subst (λ (k : ℕ). k ≤ 13) (sym n) (feed_small _ _ _ _)) w.if-number-eq0.false w.s-is
     ]

@@ -1,10 +1,8 @@
 use Rattle.hmac.proofs.Pads.{xor_in_place, length-xor}
-use Rattle.hmac.specs.Rfc2104.{xor_each}
 use lib.Seq.{take_all}
-use lib.ListN.{length, take, drop, length-set}
-use Prim.Native.Nat.{◌-◌, ◌≤◌}
+use lib.ListN.{length-set}
 use native.Mathlib.Omega.{arith}
-use mathlib.Core.Path.{◌≡◌, refl, sym, ◌∙◌}
+use mathlib.Core.Path.{refl, sym, ◌∙◌}
 use Rattle.hmac.proofs.xor_each.Goals as goal
 
 pub loop-i-init : goal.loop-i-init

@@ -1,10 +1,7 @@
-use Rattle.hmac.proofs.Pads.{xor_in_place, length-xor}
 use Rattle.hmac.specs.Rfc2104.{xor_each}
-use lib.Seq.{take_all}
-use lib.ListN.{length, take, drop, length-set}
+use lib.ListN.{length, take, drop}
 use Prim.Native.Nat.{◌-◌, ◌≤◌}
-use native.Mathlib.Omega.{arith}
-use mathlib.Core.Path.{◌≡◌, refl, sym, ◌∙◌}
+use mathlib.Core.Path.{◌≡◌}
 use Rattle.hmac.proofs.xor_each.Given as goal
 
 abbrev pub invariant-loop-i : goal.invariant-loop-i

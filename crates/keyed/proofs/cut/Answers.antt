@@ -1,11 +1,7 @@
 use Rattle.keyed.proofs.Prepared.{cut_is}
 use Rattle.suite_hash.proofs.Tail.{end_start, end_turn}
-use Rattle.buffer.specs.Buffer.{zeros}
-use lib.ListN.{length, take, length-set}
-use Prim.Native.Nat.{◌-◌, ◌≤◌}
-use mathlib.Core.List.{◌++◌}
+use lib.ListN.{length-set}
 use native.Mathlib.Omega.{arith}
-use mathlib.Core.Path.{◌≡◌}
 use Rattle.keyed.proofs.cut.Goals as goal
 
 pub loop-i-init : goal.loop-i-init

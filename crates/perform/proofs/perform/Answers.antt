@@ -1,7 +1,5 @@
-use Prim.Native.Nat.{◌-◌}
 use native.Mathlib.Omega.{arith}
-use lib.ListN.{length}
-use Rattle.perform.proofs.Performing.{Going, start, whole_tells, turned, ended, finished}
+use Rattle.perform.proofs.Performing.{start, whole_tells, turned, ended, finished}
 use Rattle.perform.proofs.perform.Goals as goal
 
 pub loop-at-init : goal.loop-at-init

@@ -1,7 +1,6 @@
 use Prim.Native.Nat.{◌-◌}
-use native.Mathlib.Omega.{arith}
 use lib.ListN.{length}
-use Rattle.perform.proofs.Performing.{Going, start, whole_tells, turned, ended, finished}
+use Rattle.perform.proofs.Performing.{Going}
 use Rattle.perform.proofs.perform.Given as goal
 
 abbrev pub invariant-loop-at : goal.invariant-loop-at

@@ -1,10 +1,8 @@
 use Prim.Native.Nat.{◌≤◌, ◌-◌}
-use mathlib.Core.Path.{◌≡◌, refl}
-use native.Mathlib.Omega.{arith}
-use lib.ListN.{length, take, length-set}
+use mathlib.Core.Path.{◌≡◌}
+use lib.ListN.{length, take}
 use Rattle.fips180.specs.Variant.{sha256}
 use Rattle.fips180.specs.Rows.{cut}
-use Rattle.fips180.proofs.Filling.{fill_step, fill_done, cut_at}
 use Rattle.sha256.proofs.cut.Given as goal
 
 abbrev pub invariant-loop-i : goal.invariant-loop-i

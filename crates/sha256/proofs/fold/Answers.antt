@@ -1,7 +1,6 @@
 use Rattle.fips180.specs.Variant.{sha256}
-use Rattle.fips180.proofs.Folding.{Folding, fold_start, fold_turn, fold_done, fold_none}
-use lib.ListN.{length, length-take, length-drop}
-use Prim.Native.Nat.{◌-◌, ◌≤◌}
+use Rattle.fips180.proofs.Folding.{fold_start, fold_turn, fold_done, fold_none}
+use lib.ListN.{length-take, length-drop}
 use native.Mathlib.Omega.{arith}
 use mathlib.Core.Path.{refl, ◌∙◌}
 use Rattle.sha256.proofs.fold.Goals as goal

@@ -1,9 +1,7 @@
 use Rattle.fips180.specs.Variant.{sha256}
-use Rattle.fips180.proofs.Folding.{Folding, fold_start, fold_turn, fold_done, fold_none}
-use lib.ListN.{length, length-take, length-drop}
+use Rattle.fips180.proofs.Folding.{Folding}
+use lib.ListN.{length}
 use Prim.Native.Nat.{◌-◌, ◌≤◌}
-use native.Mathlib.Omega.{arith}
-use mathlib.Core.Path.{refl, ◌∙◌}
 use Rattle.sha256.proofs.fold.Given as goal
 
 abbrev pub invariant-loop-i : goal.invariant-loop-i

@@ -1,11 +1,8 @@
-use Prim.Native.Nat.{ℕ, ◌≤◌, ◌-◌, ◌*◌}
-use mathlib.Core.Path.{◌≡◌, refl, sym, ap, ◌∙◌}
-use native.Mathlib.Omega.{arith}
-use lib.ListN.{length, take, length-set}
-use lib.Seq.{take_all}
+use Prim.Native.Nat.{◌≤◌, ◌-◌}
+use mathlib.Core.Path.{◌≡◌}
+use lib.ListN.{length, take}
 use Rattle.fips180.specs.Variant.{sha256}
 use Rattle.fips180.specs.Padding.{words_of}
-use Rattle.fips180.proofs.Words.{load_step, word4}
 use Rattle.sha256.proofs.load.Given as goal
 
 abbrev pub invariant-loop-i : goal.invariant-loop-i

@@ -1,13 +1,10 @@
 use Prim.Native.Nat.{◌≤◌, ◌-◌}
-use mathlib.Core.Path.{◌≡◌, refl}
+use mathlib.Core.Path.{◌≡◌}
 use mathlib.Core.List.{◌++◌}
-use native.Mathlib.Omega.{arith}
 use lib.ListN.{length}
 use Rattle.buffer.specs.Buffer.{zeros}
-use Rattle.fips180.specs.Words.{bytes_of}
 use Rattle.fips180.specs.Variant.{sha384}
-use Rattle.fips180.specs.Hash.{digest_of}
-use Rattle.fips180.proofs.Digest.{digest_bytes, digest-next, digest_all}
+use Rattle.fips180.proofs.Digest.{digest_bytes}
 use Rattle.sha384.proofs.digest_words.Given as goal
 
 abbrev pub invariant-loop-i : goal.invariant-loop-i

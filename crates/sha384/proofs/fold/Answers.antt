@@ -2,9 +2,9 @@ use Rattle.fips180.proofs.Digest.{cut-whole}
 use mir.Val.{Fits}
 use mir.Syntax.{w64}
 use Rattle.fips180.specs.Variant.{sha384}
-use Rattle.fips180.proofs.Folding.{Folding, fold_start, fold_turn, fold_done, fold_none}
-use lib.ListN.{length, length-take, length-drop, get_or}
-use Prim.Native.Nat.{ℕ, ◌-◌, ◌≤◌}
+use Rattle.fips180.proofs.Folding.{fold_start, fold_turn, fold_done, fold_none}
+use lib.ListN.{length-take, length-drop, get_or}
+use Prim.Native.Nat.{ℕ}
 use native.Mathlib.Omega.{arith}
 use mathlib.Core.Path.{refl}
 use borrow.Author.Rules.{rules}

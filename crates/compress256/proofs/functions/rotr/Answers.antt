@@ -1,4 +1,4 @@
-use Rattle.std.proofs.Common.{refl, rules}
+use Rattle.std.proofs.Common.{refl}
 use Rattle.fips180.specs.Words.{rotr}
 use Rattle.compress256.proofs.functions.rotr.Goals as goal
 

@@ -1,4 +1,4 @@
-use Rattle.std.proofs.Common.{◌≡◌, ◌-◌, ◌≤◌, length, take, refl, ◌∙◌, arith, length-set}
+use Rattle.std.proofs.Common.{refl, ◌∙◌, arith, length-set}
 use Rattle.fips180.specs.Variant.{sha256}
 use Rattle.fips180.specs.Hash.{sums}
 use Rattle.fips180.proofs.Filling.{fill_step, fill_done, sums_at}

@@ -1,7 +1,6 @@
-use Rattle.std.proofs.Common.{◌≡◌, ◌-◌, ◌≤◌, length, take, refl, ◌∙◌, arith, length-set}
+use Rattle.std.proofs.Common.{◌≡◌, ◌-◌, ◌≤◌, length, take}
 use Rattle.fips180.specs.Variant.{sha256}
 use Rattle.fips180.specs.Hash.{sums}
-use Rattle.fips180.proofs.Filling.{fill_step, fill_done, sums_at}
 use Rattle.compress256.proofs.functions.sums.Given as goal
 
 abbrev pub invariant-loop-i : goal.invariant-loop-i

@@ -1,4 +1,4 @@
-use Rattle.std.proofs.Common.{◌≡◌, ◌-◌, ◌≤◌, length, ap, ◌∙◌, add-one, arith, length-set}
+use Rattle.std.proofs.Common.{◌≡◌, ap, ◌∙◌, add-one, arith, length-set}
 use Rattle.fips180.specs.Variant.{sha256}
 use Rattle.fips180.specs.Rows.{advanced}
 use Rattle.fips180.proofs.Rows.{advanced-none, advanced-next}

@@ -1,7 +1,6 @@
-use Rattle.std.proofs.Common.{◌≡◌, ℕ, ◌-◌, ◌≤◌, List, length, ap, ◌∙◌, add-one, arith, length-set}
+use Rattle.std.proofs.Common.{◌≡◌, ℕ, ◌-◌, ◌≤◌, List, length}
 use Rattle.fips180.specs.Variant.{sha256}
 use Rattle.fips180.specs.Rows.{advanced}
-use Rattle.fips180.proofs.Rows.{advanced-next}
 use Rattle.compress256.proofs.rounds.next_words.Given as goal
 
 abbrev pub invariant-loop-i : goal.invariant-loop-i

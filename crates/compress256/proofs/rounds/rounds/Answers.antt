@@ -1,4 +1,4 @@
-use Rattle.std.proofs.Common.{◌≡◌, ℕ, ◌-◌, ◌≤◌, List, ap, ◌∙◌, add-one, arith}
+use Rattle.std.proofs.Common.{◌≡◌, ap, ◌∙◌, add-one, arith}
 use Rattle.fips180.specs.Variant.{sha256}
 use Rattle.fips180.specs.Rows.{rounds_with}
 use Rattle.fips180.proofs.Rows.{rounds-next}

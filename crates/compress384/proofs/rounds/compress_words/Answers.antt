@@ -1,7 +1,7 @@
-use Rattle.std.proofs.Common.{◌≡◌, ◌-◌, ◌*◌, ◌≤◌, length, refl, arith}
+use Rattle.std.proofs.Common.{◌≡◌, ◌*◌, refl, arith}
 use Rattle.fips180.specs.Variant.{sha384}
 use Rattle.fips180.specs.Hash.{rounds}
-use Rattle.fips180.proofs.Schedule.{Window, window_start}
+use Rattle.fips180.proofs.Schedule.{window_start}
 use Rattle.fips180.proofs.Rows.{words_window, window_kept, sixteen_rounds, all_rounds}
 use Rattle.compress384.proofs.rounds.compress_words.Goals as goal
 

@@ -1,7 +1,6 @@
-use Rattle.std.proofs.Common.{◌≡◌, ◌-◌, ◌≤◌, ap, ◌∙◌, add-one, arith}
+use Rattle.std.proofs.Common.{◌≡◌, ◌-◌, ◌≤◌}
 use Rattle.fips180.specs.Variant.{sha384}
 use Rattle.fips180.specs.Rows.{rounds_with}
-use Rattle.fips180.proofs.Rows.{rounds-none, rounds-next}
 use Rattle.compress384.proofs.rounds.first_rounds.Given as goal
 
 abbrev pub invariant-loop-i : goal.invariant-loop-i

@@ -1,7 +1,6 @@
-use Rattle.std.proofs.Common.{◌≡◌, ℕ, ◌-◌, ◌≤◌, List, ap, ◌∙◌, add-one, arith}
+use Rattle.std.proofs.Common.{◌≡◌, ℕ, ◌-◌, ◌≤◌, List}
 use Rattle.fips180.specs.Variant.{sha384}
 use Rattle.fips180.specs.Rows.{rounds_with}
-use Rattle.fips180.proofs.Rows.{rounds-next}
 use Rattle.compress384.proofs.rounds.rounds.Given as goal
 
 abbrev pub invariant-loop-i : goal.invariant-loop-i

@@ -1,7 +1,6 @@
-use Rattle.std.proofs.Common.{◌≡◌, ℕ, ◌+◌, ◌-◌, ◌*◌, ◌<◌, ◌≤◌, List, length, get_or, take, refl, ap, ◌∙◌, arith, length-set}
+use Rattle.std.proofs.Common.{◌≡◌, ◌-◌, ◌<◌, ◌≤◌, length, take}
 use Rattle.fips180.specs.Variant.{sha384}
 use Rattle.fips180.specs.Rows.{constants_at}
-use Rattle.fips180.proofs.Filling.{fill_step, fill_done, constants_length, constants_at_lem}
 use Rattle.compress384.proofs.rounds.row.Given as goal
 
 abbrev pub invariant-loop-i : goal.invariant-loop-i

@@ -1,10 +1,5 @@
-use Prim.Native.Nat.{◌≤◌, ◌-◌}
-use mathlib.Core.Path.{◌≡◌, refl}
-use mathlib.Core.Bool.{◌&&◌}
+use mathlib.Core.Path.{refl}
 use native.Mathlib.Omega.{arith}
-use lib.Dec.{eqb}
-use lib.ListN.{length, drop}
-use Rattle.buffer.specs.Buffer.{same}
 use Rattle.finished.proofs.Comparing.{other_length, same_turn, same-done}
 use Rattle.finished.proofs.check.is_same.Goals as goal
 

@@ -1,11 +1,9 @@
 use Prim.Native.Nat.{◌≤◌, ◌-◌}
-use mathlib.Core.Path.{◌≡◌, refl}
+use mathlib.Core.Path.{◌≡◌}
 use mathlib.Core.Bool.{◌&&◌}
-use native.Mathlib.Omega.{arith}
 use lib.Dec.{eqb}
 use lib.ListN.{length, drop}
 use Rattle.buffer.specs.Buffer.{same}
-use Rattle.finished.proofs.Comparing.{other_length, same_turn, same-done}
 use Rattle.finished.proofs.check.is_same.Given as goal
 
 abbrev pub invariant-loop-i : goal.invariant-loop-i

@@ -1,10 +1,5 @@
-use Prim.Native.Nat.{◌≤◌, ◌-◌}
-use mathlib.Core.Bool.{◌&&◌}
-use mathlib.Core.Path.{◌≡◌, refl}
+use mathlib.Core.Path.{refl}
 use native.Mathlib.Omega.{arith}
-use lib.Dec.{eqb}
-use lib.ListN.{length, drop}
-use Rattle.book.specs.Groups.{all_zero}
 use Rattle.book.proofs.Bytes.{zero_turn, zero-done}
 use Rattle.handshake_stage.proofs.groups.all_zero.Goals as goal
 

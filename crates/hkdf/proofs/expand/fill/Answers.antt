@@ -1,12 +1,10 @@
-use Rattle.hkdf.proofs.Filling.{Filling, Filled, start, start-bytes, next_small, turn, turn-bytes, done}
+use Rattle.hkdf.proofs.Filling.{start, start-bytes, next_small, turn, turn-bytes, done}
 use Rattle.hkdf.proofs.Labels.{block_under}
 use Rattle.hkdf.proofs.Values.{some_hash}
-use Rattle.hmac.specs.Keyed.{keyed_of}
-use Rattle.suite.specs.Suite.{hash_length}
 use mathlib.Core.Path.{◌≡◌}
-use mathlib.Core.List.{List, ◌++◌}
+use mathlib.Core.List.{◌++◌}
 use lib.ListN.{length, take, length-take}
-use Prim.Native.Nat.{ℕ, ◌+◌, ◌-◌, ◌*◌, ◌≤◌}
+use Prim.Native.Nat.{◌+◌, ◌≤◌}
 use native.Mathlib.Omega.{arith}
 use Rattle.hkdf.proofs.expand.fill.Goals as goal
 

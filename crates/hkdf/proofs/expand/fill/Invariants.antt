@@ -1,13 +1,10 @@
-use Rattle.hkdf.proofs.Filling.{Filling, Filled, start, start-bytes, next_small, turn, turn-bytes, done}
-use Rattle.hkdf.proofs.Labels.{block_under}
-use Rattle.hkdf.proofs.Values.{some_hash}
+use Rattle.hkdf.proofs.Filling.{Filling, Filled}
 use Rattle.hmac.specs.Keyed.{keyed_of}
 use Rattle.suite.specs.Suite.{hash_length}
 use mathlib.Core.Path.{◌≡◌}
 use mathlib.Core.List.{List, ◌++◌}
-use lib.ListN.{length, take, length-take}
-use Prim.Native.Nat.{ℕ, ◌+◌, ◌-◌, ◌*◌, ◌≤◌}
-use native.Mathlib.Omega.{arith}
+use lib.ListN.{length}
+use Prim.Native.Nat.{ℕ, ◌-◌, ◌*◌, ◌≤◌}
 use Rattle.hkdf.proofs.expand.fill.Given as goal
 
 abbrev pub invariant-loop-at : goal.invariant-loop-at

@@ -1,6 +1,6 @@
 use Rattle.suite_hash.proofs.Turns.{compress_is}
 use Rattle.suite_hash.proofs.Sound.{sound, block_len}
-use Rattle.std.proofs.Common.{◌∙◌, arith, length-take, rules}
+use Rattle.std.proofs.Common.{◌∙◌, arith, length-take}
 use Rattle.suite_hash.proofs.blocks.compress.Goals as goal
 
 pub slice_bounds-fold-end : goal.slice_bounds-fold-end

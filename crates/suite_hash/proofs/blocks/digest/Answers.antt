@@ -2,7 +2,7 @@ use Rattle.fips180.specs.Rows.{digest_in48}
 use Rattle.fips180.specs.Variant.{Variant}
 use Rattle.suite_hash.proofs.Sound.{is_variant}
 use Rattle.suite.specs.declared.Hash.TheVariants.{Sha256, Sha384}
-use Rattle.std.proofs.Common.{sym, ap, ◌∙◌, rules}
+use Rattle.std.proofs.Common.{sym, ap, ◌∙◌}
 use Rattle.suite_hash.proofs.blocks.digest.Goals as goal
 
 pub returns-in-Sha256 : goal.returns-in-Sha256

@@ -1,4 +1,4 @@
-use Rattle.std.proofs.Common.{◌/◌, length, sym, ap, ◌∙◌, rules}
+use Rattle.std.proofs.Common.{◌/◌, length, sym, ap, ◌∙◌}
 use Rattle.fips180.specs.Rows.{folded}
 use Rattle.fips180.specs.Variant.{Variant}
 use Rattle.suite_hash.proofs.Sound.{is_variant}

@@ -1,4 +1,4 @@
-use Rattle.std.proofs.Common.{◌-◌, ◌%◌, sym, ap, rules}
+use Rattle.std.proofs.Common.{◌%◌, sym, ap}
 use Rattle.fips180.specs.Variant.{Variant, sha256, sha384}
 use Rattle.suite_hash.proofs.Sound.{is_variant}
 use Rattle.suite.specs.declared.Hash.TheVariants.{Sha256, Sha384}

@@ -1,6 +1,5 @@
 use Rattle.suite_hash.proofs.Tail.{end_start, end_turn, end_is}
-use Rattle.buffer.specs.Buffer.{zeros}
-use Rattle.std.proofs.Common.{◌≡◌, ◌-◌, ◌≤◌, ◌++◌, length, take, arith, length-set, rules}
+use Rattle.std.proofs.Common.{arith, length-set}
 use Rattle.suite_hash.proofs.padding.end.Goals as goal
 
 pub loop-i-init : goal.loop-i-init

@@ -1,6 +1,5 @@
-use Rattle.suite_hash.proofs.Tail.{end_start, end_turn, end_is}
 use Rattle.buffer.specs.Buffer.{zeros}
-use Rattle.std.proofs.Common.{◌≡◌, ◌-◌, ◌≤◌, ◌++◌, length, take, arith, length-set, rules}
+use Rattle.std.proofs.Common.{◌≡◌, ◌-◌, ◌≤◌, ◌++◌, length, take}
 use Rattle.suite_hash.proofs.padding.end.Given as goal
 
 abbrev pub invariant-loop-i : goal.invariant-loop-i

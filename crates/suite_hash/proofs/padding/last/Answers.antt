@@ -1,6 +1,6 @@
 use Rattle.suite_hash.proofs.Tail.{last_is}
 use Rattle.suite_hash.proofs.Sound.{sound, block_len}
-use Rattle.std.proofs.Common.{◌∙◌, arith, rules}
+use Rattle.std.proofs.Common.{◌∙◌, arith}
 use Rattle.suite_hash.proofs.padding.last.Goals as goal
 
 pub overflow_sub-b : goal.overflow_sub-b

@@ -1,5 +1,5 @@
 use Rattle.suite_hash.proofs.Tail.{pad_short, pad_long}
-use Rattle.std.proofs.Common.{◌∙◌, mod-lt, arith, rules}
+use Rattle.std.proofs.Common.{◌∙◌, mod-lt, arith}
 use Rattle.suite_hash.proofs.Sound.{sound, block_len, positive}
 use Rattle.suite_hash.specs.Running.{run}
 use Rattle.suite_hash.proofs.padding.pad.Goals as goal

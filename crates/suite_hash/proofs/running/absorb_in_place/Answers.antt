@@ -1,5 +1,5 @@
 use Rattle.suite_hash.proofs.Turns.{absorb_short, absorb_long}
-use Rattle.std.proofs.Common.{◌-◌, length, take, drop, ◌∙◌, mod-lt, div-add-mod', arith, length-take, rules}
+use Rattle.std.proofs.Common.{◌-◌, length, take, drop, ◌∙◌, mod-lt, div-add-mod', arith, length-take}
 use Rattle.suite_hash.specs.Variants.{variant_of}
 use Rattle.suite_hash.specs.Running.{run}
 use Rattle.suite_hash.proofs.Sound.{sound, block_len, positive}

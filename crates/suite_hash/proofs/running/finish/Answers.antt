@@ -1,4 +1,4 @@
-use Rattle.std.proofs.Common.{ap, ◌∙◌, rules}
+use Rattle.std.proofs.Common.{ap, ◌∙◌}
 use Rattle.fips180.specs.Rows.{digest_in48}
 use Rattle.suite_hash.specs.Running.{finished}
 use Rattle.suite_hash.proofs.running.finish.Goals as goal

@@ -1,5 +1,4 @@
 use Rattle.suite_hash.specs.Running.{start}
-use Rattle.std.proofs.Common.{rules}
 use Rattle.suite_hash.proofs.running.start.Goals as goal
 
 pub returns : goal.returns
