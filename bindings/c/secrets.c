@@ -4,7 +4,8 @@
  * its result. What a call gives in the open (its number, the count of bytes, the verdict, the public part of the
  * session) has to be defined in each bit.
  *
- *   secrets open     without suppressions: each declassified call is reported once, and no other. Prints the table.
+ *   secrets open     without suppressions: each declassified call tells once, by a branch (the all-zero test) or by its
+ *                    result (the verdict), and no other does. Prints the table.
  *   secrets closed   with secrets.supp: no call is reported.
  *   secrets control  leaks of this program's own, one of each kind, are seen. */
 #include "bindcricket.h"
