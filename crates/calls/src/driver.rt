@@ -7,6 +7,8 @@ use super::reads::make_check;
 use super::reply::Turn;
 use frames::{Frame, read};
 use session::{Session, fresh};
+use std::io;
+use std::io::Stdout;
 
 // The session, the number of records, and whether the last of them is bad.
 #[derive(Clone, Copy)]
@@ -26,7 +28,7 @@ fn run_one(s: Session, kind: u16, payload: &[u8], out: &mut [u8]) -> Turn {
     }
 }
 
-fn run_all(input: &[u8], out: &mut [u8]) -> Ran {
+fn run_all(stdout: Stdout, input: &[u8], out: &mut [u8]) -> io::Result<Ran> {
     let mut session = fresh();
     let mut at: usize = 0;
     let mut records: u64 = 0;
@@ -40,38 +42,38 @@ fn run_all(input: &[u8], out: &mut [u8]) -> Ran {
             next,
         } = frame
         else {
-            return Ran {
+            return Ok(Ran {
                 session,
                 records,
                 bad: true,
-            };
+            });
         };
         let turn = run_one(session, kind, &input[start..next], out);
         session = turn.session;
         let reply = turn.reply;
-        let good = say_reply(records, kind, reply, out);
+        let good = say_reply(stdout, records, kind, reply, out)?;
         if !good {
-            return Ran {
+            return Ok(Ran {
                 session,
                 records,
                 bad: true,
-            };
+            });
         }
         at = next;
     }
-    Ran {
+    Ok(Ran {
         session,
         records,
         bad: false,
-    }
+    })
 }
 
-pub(crate) fn run(input: &[u8], out: &mut [u8]) {
-    let ran = run_all(input, out);
+pub(crate) fn run(stdout: Stdout, input: &[u8], out: &mut [u8]) -> io::Result<()> {
+    let ran = run_all(stdout, input, out)?;
     if ran.bad {
-        say_count(b"bad", ran.records);
+        say_count(stdout, b"bad", ran.records)?;
     } else {
-        say_count(b"end", ran.records);
+        say_count(stdout, b"end", ran.records)?;
     }
-    say_session(ran.session);
+    say_session(stdout, ran.session)
 }

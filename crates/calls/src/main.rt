@@ -1,6 +1,8 @@
 // Runs a list of calls from standard input, and prints what each answers.
 #![tactic(auto)]
 
+ghost use Rattle.std.specs.Prelude.{◌≤◌};
+
 mod changes;
 mod driver;
 mod journals;
@@ -12,18 +14,26 @@ mod readings;
 mod reads;
 mod reply;
 
-use libc::STDIN_FILENO;
+use input::read_full;
+use std::io;
+use std::io::{Stdin, Stdout};
 
 // The longest input.
 const MAX: usize = 3145728;
 
-fn main() {
-    let mut input = [0u8; 3145729];
-    let n = io::read_full(STDIN_FILENO, &mut input);
+// Runs the calls of the input, of which no more than N bytes are read.
+fn run<const N: usize>(mut stdin: Stdin, stdout: Stdout) -> io::Result<()>
+    requires { N ≤ 3145729 }
+{
+    let mut input = [0u8; N];
+    let n = read_full(&mut stdin, &mut input)?;
     if MAX < n {
-        output::say(b"long\n");
-        return;
+        return output::say(stdout, b"long\n");
     }
     let mut out = [0u8; 131072];
-    driver::run(&input[..n], &mut out);
+    driver::run(stdout, &input[..n], &mut out)
+}
+
+fn main(rt: HostRuntime) -> io::Result<()> {
+    run::<3145729>(rt.stdin(), rt.stdout())
 }

@@ -10,6 +10,8 @@ use super::output::{say, say_refused};
 use super::reading::read;
 use refusal::Answer;
 use session::{Outcome, Session, fresh};
+use std::io;
+use std::io::Stdout;
 use text::field::field_end;
 
 #[derive(Clone, Copy)]
@@ -47,43 +49,45 @@ fn call(s: Session, change: Change, first: u16, second: usize, bytes: &[u8]) -> 
 }
 
 // Answers the session after the call.
-fn answer_outcome(outcome: Outcome) -> Session {
+fn answer_outcome(stdout: Stdout, outcome: Outcome) -> io::Result<Session> {
     let session = outcome.session;
     let answer = outcome.answer;
     let number = answer.number();
     if number == 0 {
-        say(b"done");
+        say(stdout, b"done")?;
     } else {
-        say_refused(number);
+        say_refused(stdout, number)?;
     }
-    session
+    Ok(session)
 }
 
 fn perform(
+    stdout: Stdout,
     s: Session,
     operation: Operation,
     first: u16,
     second: usize,
     x: &[u8],
     y: &[u8],
-) -> Session {
+) -> io::Result<Session> {
     match operation {
-        Operation::Change(change) => answer_outcome(call(s, change, first, second, x)),
+        Operation::Change(change) => answer_outcome(stdout, call(s, change, first, second, x)),
         Operation::Reading(reading) => {
-            read(s, reading, first, second, x, y);
-            s
+            read(stdout, s, reading, first, second, x, y)?;
+            Ok(s)
         }
-        _ => s,
+        _ => Ok(s),
     }
 }
 
 fn answer_bytes(
+    stdout: Stdout,
     s: Session,
     operation: Operation,
     first: u16,
     second: usize,
     fields: &[u8],
-) -> Session {
+) -> io::Result<Session> {
     let end = field_end(fields, 0);
     let from = behind_space(fields, end);
     let mut x = [0u8; 4096];
@@ -91,25 +95,30 @@ fn answer_bytes(
     let mut y = [0u8; 4096];
     let b = bytes_in(&fields[from..], &mut y);
     if !a.good {
-        say(b"bad line");
-        return s;
+        say(stdout, b"bad line")?;
+        return Ok(s);
     }
     if !b.good {
-        say(b"bad line");
-        return s;
+        say(stdout, b"bad line")?;
+        return Ok(s);
     }
     let n = a.len;
     let m = b.len;
-    perform(s, operation, first, second, &x[..n], &y[..m])
+    perform(stdout, s, operation, first, second, &x[..n], &y[..m])
 }
 
 // Answers the session after the operation.
-pub(crate) fn answer_session(s: Session, operation: Operation, rest: &[u8]) -> Session {
+pub(crate) fn answer_session(
+    stdout: Stdout,
+    s: Session,
+    operation: Operation,
+    rest: &[u8],
+) -> io::Result<Session> {
     let end = field_end(rest, 0);
     let from = behind_space(rest, end);
     let to = field_end(rest, from);
     let last = behind_space(rest, to);
     let first = four_digits(&rest[..end]);
     let second = decimal(&rest[from..to]);
-    answer_bytes(s, operation, first, second, &rest[last..])
+    answer_bytes(stdout, s, operation, first, second, &rest[last..])
 }

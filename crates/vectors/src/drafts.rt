@@ -13,22 +13,28 @@ use oneshot::hash;
 use outputs::export::export;
 use refusal::Answer;
 use session::Session;
+use std::io;
+use std::io::Stdout;
 use suite::Suite;
 
 // Compares what the session's call and the draft's made.
-fn compare(made: Answer, drafted: Answer, value: &[u8], draft: &[u8]) {
+fn compare(
+    stdout: Stdout,
+    made: Answer,
+    drafted: Answer,
+    value: &[u8],
+    draft: &[u8],
+) -> io::Result<()> {
     if made.number() != 0 {
-        say_refused(made.number());
-        return;
+        return say_refused(stdout, made.number());
     }
     if drafted.number() != 0 {
-        say_refused(drafted.number());
-        return;
+        return say_refused(stdout, drafted.number());
     }
     if same(value, draft) {
-        say(b"same");
+        say(stdout, b"same")
     } else {
-        say(b"differs");
+        say(stdout, b"differs")
     }
 }
 
@@ -55,17 +61,29 @@ fn draft_export(
     expand_label(suite, secret, label, &digest[..h], asked, out)
 }
 
-pub(crate) fn compare_export(s: Session, name: u8, asked: usize, label: &[u8], context: &[u8]) {
+pub(crate) fn compare_export(
+    stdout: Stdout,
+    s: Session,
+    name: u8,
+    asked: usize,
+    label: &[u8],
+    context: &[u8],
+) -> io::Result<()> {
     let mut value = [0u8; 512];
     let made = export(s, name, label, context, asked, &mut value);
     let mut draft = [0u8; 512];
     let h = Suite::hash_len(s.suite);
     let secret = place(s, exporter(name));
     let drafted = draft_export(s.suite, &secret[..h], asked, label, context, &mut draft);
-    compare(made, drafted, &value, &draft);
+    compare(stdout, made, drafted, &value, &draft)
 }
 
-pub(crate) fn compare_handshake(s: Session, group: u16, secret: &[u8]) {
+pub(crate) fn compare_handshake(
+    stdout: Stdout,
+    s: Session,
+    group: u16,
+    secret: &[u8],
+) -> io::Result<()> {
     let outcome = handshake(s, group, secret);
     let made = outcome.answer;
     let next = outcome.session;
@@ -74,10 +92,10 @@ pub(crate) fn compare_handshake(s: Session, group: u16, secret: &[u8]) {
     let mut draft = [0u8; 48];
     let drafted = extract(s.suite, &early[..h], secret, &mut draft);
     let value = place(next, 1);
-    compare(made, drafted, &value, &draft);
+    compare(stdout, made, drafted, &value, &draft)
 }
 
-pub(crate) fn compare_master(s: Session) {
+pub(crate) fn compare_master(stdout: Stdout, s: Session) -> io::Result<()> {
     let outcome = application(s);
     let made = outcome.answer;
     let next = outcome.session;
@@ -87,5 +105,5 @@ pub(crate) fn compare_master(s: Session) {
     let mut draft = [0u8; 48];
     let drafted = extract(s.suite, &key[..h], &before[..h], &mut draft);
     let value = place(next, 1);
-    compare(made, drafted, &value, &draft);
+    compare(stdout, made, drafted, &value, &draft)
 }

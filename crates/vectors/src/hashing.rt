@@ -7,8 +7,10 @@ use check::same;
 use hex_text::{HexRead, get_hex};
 use oneshot::hash;
 use refusal::refuse_if;
-use suite_hash::running::{absorb, finish, start};
+use std::io;
+use std::io::Stdout;
 use suite::Suite;
+use suite_hash::running::{absorb, finish, start};
 use text::decimal::{DecimalRead, get_decimal};
 use text::field::field_end;
 
@@ -78,19 +80,17 @@ fn by_one_shot(suite: u16, unit: &[u8], total: usize, d: &[u8]) -> u8 {
     )
 }
 
-fn answer_message(suite: u16, unit: &[u8], total: usize) {
+fn answer_message(stdout: Stdout, suite: u16, unit: &[u8], total: usize) -> io::Result<()> {
     let d = in_pieces(suite, unit, total);
     let h = Suite::hash_len(suite);
     let verdict = by_one_shot(suite, unit, total, &d[..h]);
     if verdict == 0 {
-        say_hex(&d[..h]);
-        return;
+        return say_hex(stdout, &d[..h]);
     }
     if verdict == DIFFERS {
-        say(b"differs");
-        return;
+        return say(stdout, b"differs");
     }
-    say_refused(verdict);
+    say_refused(stdout, verdict)
 }
 
 // Bytes: hex digits, or - for none.
@@ -104,20 +104,18 @@ pub(crate) fn read_bytes(digits: &[u8], out: &mut [u8]) -> HexRead {
     get_hex(digits, out)
 }
 
-fn answer_unit(suite: u16, times: u64, digits: &[u8])
+fn answer_unit(stdout: Stdout, suite: u16, times: u64, digits: &[u8]) -> io::Result<()>
     requires { times ≤ 1000000 }
 {
     let mut unit = [0u8; 4096];
     let read = read_bytes(digits, &mut unit);
     let HexRead::Bytes(n) = read else {
-        say(b"bad line");
-        return;
+        return say(stdout, b"bad line");
     };
     if 4096 < n {
-        say(b"bad line");
-        return;
+        return say(stdout, b"bad line");
     }
-    answer_message(suite, &unit[..n], n * times as usize);
+    answer_message(stdout, suite, &unit[..n], n * times as usize)
 }
 
 #[derive(Clone, Copy)]
@@ -139,28 +137,25 @@ pub(crate) fn read_suite(digits: &[u8]) -> SuiteRead {
     SuiteRead::Number(wide(two[0]) * 256 + wide(two[1]))
 }
 
-fn answer_times(suite: u16, digits: &[u8], unit: &[u8]) {
+fn answer_times(stdout: Stdout, suite: u16, digits: &[u8], unit: &[u8]) -> io::Result<()> {
     let read = get_decimal(digits);
     let DecimalRead::Value(times) = read else {
-        say(b"bad line");
-        return;
+        return say(stdout, b"bad line");
     };
     if MOST < times {
-        say(b"bad line");
-        return;
+        return say(stdout, b"bad line");
     }
-    answer_unit(suite, times, unit);
+    answer_unit(stdout, suite, times, unit)
 }
 
-pub(crate) fn answer_hash(rest: &[u8]) {
+pub(crate) fn answer_hash(stdout: Stdout, rest: &[u8]) -> io::Result<()> {
     let end = field_end(rest, 0);
     let from = behind_space(rest, end);
     let to = field_end(rest, from);
     let unit = behind_space(rest, to);
     let read = read_suite(&rest[..end]);
     let SuiteRead::Number(suite) = read else {
-        say(b"bad line");
-        return;
+        return say(stdout, b"bad line");
     };
-    answer_times(suite, &rest[from..to], &rest[unit..]);
+    answer_times(stdout, suite, &rest[from..to], &rest[unit..])
 }

@@ -7,6 +7,8 @@ use super::line::behind_space;
 use super::output::{say, say_hex, say_refused};
 use hex_text::HexRead;
 use refusal::Answer;
+use std::io;
+use std::io::Stdout;
 use text::decimal::{DecimalRead, get_decimal};
 use text::field::field_end;
 
@@ -29,36 +31,53 @@ fn call(keying: Keying, suite: u16, n: usize, a: &[u8], b: &[u8], out: &mut [u8]
     }
 }
 
-fn answer_call(keying: Keying, suite: u16, n: usize, a: &[u8], b: &[u8])
+fn answer_call(
+    stdout: Stdout,
+    keying: Keying,
+    suite: u16,
+    n: usize,
+    a: &[u8],
+    b: &[u8],
+) -> io::Result<()>
     requires { n ≤ 512 }
 {
     let mut out = [0u8; 512];
     let answer = call(keying, suite, n, a, b, &mut out);
     let number = answer.number();
     if number == 0 {
-        say_hex(&out[..n]);
-        return;
+        return say_hex(stdout, &out[..n]);
     }
-    say_refused(number);
+    say_refused(stdout, number)
 }
 
-fn answer_second(keying: Keying, suite: u16, n: usize, a: &[u8], digits: &[u8])
+fn answer_second(
+    stdout: Stdout,
+    keying: Keying,
+    suite: u16,
+    n: usize,
+    a: &[u8],
+    digits: &[u8],
+) -> io::Result<()>
     requires { n ≤ 512 }
 {
     let mut b = [0u8; 4096];
     let read = read_bytes(digits, &mut b);
     let HexRead::Bytes(k) = read else {
-        say(b"bad line");
-        return;
+        return say(stdout, b"bad line");
     };
     if 4096 < k {
-        say(b"bad line");
-        return;
+        return say(stdout, b"bad line");
     }
-    answer_call(keying, suite, n, a, &b[..k]);
+    answer_call(stdout, keying, suite, n, a, &b[..k])
 }
 
-fn answer_first(keying: Keying, suite: u16, n: usize, fields: &[u8])
+fn answer_first(
+    stdout: Stdout,
+    keying: Keying,
+    suite: u16,
+    n: usize,
+    fields: &[u8],
+) -> io::Result<()>
     requires { n ≤ 512 }
 {
     let end = field_end(fields, 0);
@@ -66,38 +85,33 @@ fn answer_first(keying: Keying, suite: u16, n: usize, fields: &[u8])
     let mut a = [0u8; 4096];
     let read = read_bytes(&fields[..end], &mut a);
     let HexRead::Bytes(k) = read else {
-        say(b"bad line");
-        return;
+        return say(stdout, b"bad line");
     };
     if 4096 < k {
-        say(b"bad line");
-        return;
+        return say(stdout, b"bad line");
     }
-    answer_second(keying, suite, n, &a[..k], &fields[from..]);
+    answer_second(stdout, keying, suite, n, &a[..k], &fields[from..])
 }
 
-fn answer_length(keying: Keying, suite: u16, fields: &[u8]) {
+fn answer_length(stdout: Stdout, keying: Keying, suite: u16, fields: &[u8]) -> io::Result<()> {
     let end = field_end(fields, 0);
     let from = behind_space(fields, end);
     let read = get_decimal(&fields[..end]);
     let DecimalRead::Value(n) = read else {
-        say(b"bad line");
-        return;
+        return say(stdout, b"bad line");
     };
     if MOST < n {
-        say(b"bad line");
-        return;
+        return say(stdout, b"bad line");
     }
-    answer_first(keying, suite, n as usize, &fields[from..]);
+    answer_first(stdout, keying, suite, n as usize, &fields[from..])
 }
 
-pub(crate) fn answer_keying(keying: Keying, rest: &[u8]) {
+pub(crate) fn answer_keying(stdout: Stdout, keying: Keying, rest: &[u8]) -> io::Result<()> {
     let end = field_end(rest, 0);
     let from = behind_space(rest, end);
     let read = read_suite(&rest[..end]);
     let SuiteRead::Number(suite) = read else {
-        say(b"bad line");
-        return;
+        return say(stdout, b"bad line");
     };
-    answer_length(keying, suite, &rest[from..]);
+    answer_length(stdout, keying, suite, &rest[from..])
 }

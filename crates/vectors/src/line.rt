@@ -7,6 +7,8 @@ use super::keying::answer_keying;
 use super::names::{Operation, operation_named};
 use super::output::say;
 use session::{Session, fresh};
+use std::io;
+use std::io::Stdout;
 use text::field::field_end;
 
 // The end of the line that starts at index from.
@@ -36,38 +38,39 @@ pub(crate) fn behind_space(text: &[u8], end: usize) -> usize
 }
 
 // Prints the value of an operation, and answers the session after it.
-fn answer_operation(s: Session, name: &[u8], rest: &[u8]) -> Session {
+fn answer_operation(stdout: Stdout, s: Session, name: &[u8], rest: &[u8]) -> io::Result<Session> {
     let operation = operation_named(name);
     match operation {
-        Operation::Hash => answer_hash(rest),
-        Operation::Keying(keying) => answer_keying(keying, rest),
-        Operation::Unknown => say(b"bad line"),
+        Operation::Hash => answer_hash(stdout, rest)?,
+        Operation::Keying(keying) => answer_keying(stdout, keying, rest)?,
+        Operation::Unknown => say(stdout, b"bad line")?,
         _ => {
-            return answer_session(s, operation, rest);
+            return answer_session(stdout, s, operation, rest);
         }
     }
-    s
+    Ok(s)
 }
 
-fn answer(s: Session, line: &[u8]) -> Session {
+fn answer(stdout: Stdout, s: Session, line: &[u8]) -> io::Result<Session> {
     let end = field_end(line, 0);
     let from = behind_space(line, end);
     let to = field_end(line, from);
     let rest = behind_space(line, to);
-    say(&line[..end]);
-    say(b" ");
-    let next = answer_operation(s, &line[from..to], &line[rest..]);
-    say(b"\n");
-    next
+    say(stdout, &line[..end])?;
+    say(stdout, b" ")?;
+    let next = answer_operation(stdout, s, &line[from..to], &line[rest..])?;
+    say(stdout, b"\n")?;
+    Ok(next)
 }
 
-pub(crate) fn answer_all(text: &[u8]) {
+pub(crate) fn answer_all(stdout: Stdout, text: &[u8]) -> io::Result<()> {
     let mut session = fresh();
     let mut at: usize = 0;
     while at < text.len() {
         let end = line_end(text, at);
-        let next = answer(session, &text[at..end]);
+        let next = answer(stdout, session, &text[at..end])?;
         session = next;
         at = behind_space(text, end);
     }
+    Ok(())
 }

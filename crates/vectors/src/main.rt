@@ -13,10 +13,12 @@ mod output;
 mod places;
 mod reading;
 
-use libc::STDIN_FILENO;
+use input::read_full;
+use std::io;
 
-fn main() {
+fn main(rt: HostRuntime) -> io::Result<()> {
+    let mut stdin = rt.stdin();
     let mut text = [0u8; 262144];
-    let n = io::read_full(STDIN_FILENO, &mut text);
-    line::answer_all(&text[..n]);
+    let n = read_full(&mut stdin, &mut text)?;
+    line::answer_all(rt.stdout(), &text[..n])
 }

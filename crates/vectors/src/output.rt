@@ -1,47 +1,49 @@
 // What is printed.
 use hex_text::put_hex;
-use libc::STDOUT_FILENO;
 use refusal::Answer;
+use std::io;
+use std::io::{Print, Stdout};
 use text::decimal::put_decimal;
 
-pub(crate) fn say(words: &[u8]) {
-    io::write_all(STDOUT_FILENO, words);
+pub(crate) fn say(stdout: Stdout, words: &[u8]) -> io::Result<()> {
+    stdout.write_all(words)
 }
 
 // The first n bytes of out.
-fn say_front(out: &[u8], n: usize) {
+fn say_front(stdout: Stdout, out: &[u8], n: usize) -> io::Result<()> {
     if n <= out.len() {
-        say(&out[..n]);
+        return say(stdout, &out[..n]);
     }
+    Ok(())
 }
 
-fn say_number(n: u64) {
+fn say_number(stdout: Stdout, n: u64) -> io::Result<()> {
     let mut digits = [0u8; 20];
     let end = put_decimal(&mut digits, 0, n);
-    say_front(&digits, end);
+    say_front(stdout, &digits, end)
 }
 
 // At most 512 bytes.
-pub(crate) fn say_hex(bytes: &[u8]) {
+pub(crate) fn say_hex(stdout: Stdout, bytes: &[u8]) -> io::Result<()> {
     let mut digits = [0u8; 1024];
     let end = put_hex(&mut digits, 0, bytes);
-    say_front(&digits, end);
+    say_front(stdout, &digits, end)
 }
 
-pub(crate) fn say_refused(number: u8) {
-    say(b"refused ");
-    say_number(number as u64);
+pub(crate) fn say_refused(stdout: Stdout, number: u8) -> io::Result<()> {
+    say(stdout, b"refused ")?;
+    say_number(stdout, number as u64)
 }
 
 // The bytes that an answer reports written to the front of out, at most 512; or the refusal.
-pub(crate) fn say_written(answer: Answer, out: &[u8]) {
+pub(crate) fn say_written(stdout: Stdout, answer: Answer, out: &[u8]) -> io::Result<()> {
     let number = answer.number();
     let count = answer.count();
     if number != 0 {
-        say_refused(number);
-        return;
+        return say_refused(stdout, number);
     }
     if count <= out.len() {
-        say_hex(&out[..count]);
+        return say_hex(stdout, &out[..count]);
     }
+    Ok(())
 }

@@ -5,6 +5,8 @@ use super::numbers::small;
 use super::output::{say, say_hex, say_refused, say_written};
 use super::places::place;
 use session::Session;
+use std::io;
+use std::io::Stdout;
 
 #[derive(Clone, Copy)]
 pub(crate) enum Reading {
@@ -19,60 +21,74 @@ pub(crate) enum Reading {
     DraftMaster,
 }
 
-fn answer_place(s: Session, n: u8) {
+fn answer_place(stdout: Stdout, s: Session, n: u8) -> io::Result<()> {
     let bytes = place(s, n);
-    say_hex(&bytes);
+    say_hex(stdout, &bytes)
 }
 
-fn answer_keys(s: Session, name: u8) {
+fn answer_keys(stdout: Stdout, s: Session, name: u8) -> io::Result<()> {
     let mut out = [0u8; 48];
     let answer = outputs::keys::keys(s, name, &mut out);
-    say_written(answer, &out);
+    say_written(stdout, answer, &out)
 }
 
-fn answer_finished(s: Session, side: u8) {
+fn answer_finished(stdout: Stdout, s: Session, side: u8) -> io::Result<()> {
     let mut out = [0u8; 48];
     let answer = finished::finished::finished(s, side, &mut out);
-    say_written(answer, &out);
+    say_written(stdout, answer, &out)
 }
 
-fn answer_check(s: Session, side: u8, received: &[u8]) {
+fn answer_check(stdout: Stdout, s: Session, side: u8, received: &[u8]) -> io::Result<()> {
     let verdict = finished::check::check(s, side, received);
     let number = verdict.number();
     if number != 0 {
-        say_refused(number);
-        return;
+        return say_refused(stdout, number);
     }
     if verdict.is_yes() {
-        say(b"yes");
+        say(stdout, b"yes")
     } else {
-        say(b"no");
+        say(stdout, b"no")
     }
 }
 
-fn answer_binder(s: Session, hello: &[u8]) {
+fn answer_binder(stdout: Stdout, s: Session, hello: &[u8]) -> io::Result<()> {
     let mut out = [0u8; 48];
     let answer = finished::binder::binder(s, hello, &mut out);
-    say_written(answer, &out);
+    say_written(stdout, answer, &out)
 }
 
-fn answer_export(s: Session, name: u8, asked: usize, label: &[u8], context: &[u8]) {
+fn answer_export(
+    stdout: Stdout,
+    s: Session,
+    name: u8,
+    asked: usize,
+    label: &[u8],
+    context: &[u8],
+) -> io::Result<()> {
     let mut out = [0u8; 512];
     let answer = outputs::export::export(s, name, label, context, asked, &mut out);
-    say_written(answer, &out);
+    say_written(stdout, answer, &out)
 }
 
-pub(crate) fn read(s: Session, reading: Reading, first: u16, second: usize, x: &[u8], y: &[u8]) {
+pub(crate) fn read(
+    stdout: Stdout,
+    s: Session,
+    reading: Reading,
+    first: u16,
+    second: usize,
+    x: &[u8],
+    y: &[u8],
+) -> io::Result<()> {
     let name = small(first as usize);
     match reading {
-        Reading::Place => answer_place(s, name),
-        Reading::Keys => answer_keys(s, name),
-        Reading::Finished => answer_finished(s, name),
-        Reading::Check => answer_check(s, name, x),
-        Reading::Binder => answer_binder(s, x),
-        Reading::Export => answer_export(s, name, second, x, y),
-        Reading::DraftExport => compare_export(s, name, second, x, y),
-        Reading::DraftHandshake => compare_handshake(s, first, x),
-        Reading::DraftMaster => compare_master(s),
+        Reading::Place => answer_place(stdout, s, name),
+        Reading::Keys => answer_keys(stdout, s, name),
+        Reading::Finished => answer_finished(stdout, s, name),
+        Reading::Check => answer_check(stdout, s, name, x),
+        Reading::Binder => answer_binder(stdout, s, x),
+        Reading::Export => answer_export(stdout, s, name, second, x, y),
+        Reading::DraftExport => compare_export(stdout, s, name, second, x, y),
+        Reading::DraftHandshake => compare_handshake(stdout, s, first, x),
+        Reading::DraftMaster => compare_master(stdout, s),
     }
 }
