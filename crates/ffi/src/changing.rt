@@ -5,7 +5,7 @@ ghost use Rattle.book.specs.Call.{Call};
 ghost use Rattle.lent.specs.Called.{Called, numbered};
 
 use application_stage::application_lent;
-use complete_stage::complete::complete;
+use complete_stage::complete::complete_lent;
 use complete_stage::update::update_lent;
 use decoder::decode;
 use early_stage::early_lent;
@@ -62,11 +62,7 @@ pub extern "C" fn bindcricket_application(session: &mut [u8]) -> u8
 pub extern "C" fn bindcricket_complete(session: &mut [u8]) -> u8
     ensures { Called session.old Call.Complete [] session.new (numbered result) }
 {
-    if session.len() != SESSION_BYTES {
-        return NOT_A_SESSION;
-    }
-    let done = complete(decode(session));
-    store(done, session)
+    complete_lent(session)
 }
 
 #[unsafe(no_mangle)]
