@@ -11,8 +11,8 @@
  *
  * A function that writes puts its bytes at the front of `out`, sets `*written` to their number (0 where its answer is not
  * 0), and changes no other byte of `out`. A pointer must not be null, also where its size is 0; two buffers of which one is
- * written must not overlap. The library has no variables of its own, calls memcpy, memmove and memset and nothing else, and
- * allocates nothing.
+ * written must not overlap. The library has no variables of its own, calls memcpy and memset and nothing else, and allocates
+ * nothing.
  *
  * Copies of secrets stay on the stack below the caller until something overwrites them: bindcricket_clear_stack does. */
 #ifndef BINDCRICKET_H

@@ -12,7 +12,7 @@ use Rattle.book.specs.Refusals.{begin_number, number}
 use Rattle.book.proofs.Accepted.{begin_zero, early-zero, handshake-zero, application-zero, complete-zero, update_zero}
 
 -- from a point, a kind and an Early that ran (1) or not (0), to those after it
-pub data Moves : Call → (point kind ran after kindAfter ranAfter : ℕ) → Type 0 where
+pub data Moves : Call → (point kind ran after kind_after ran_after : ℕ) → Type 0 where
   begins : {suite kind k r : ℕ} {psk : List ℕ} → Moves (Begin suite kind psk) 0 k r 1 kind 0
   feeds : {p k r : ℕ} {m : List ℕ} → Moves (Feed m) p k r p k r
   runs : {k : ℕ} → Moves Early 1 k 0 1 k 1

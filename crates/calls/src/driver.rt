@@ -1,7 +1,7 @@
 // The records of the input, one behind the other.
 use super::changes::change;
 use super::journals::make_read;
-use super::lent::lend;
+use super::lending::lend;
 use super::output::{say_count, say_reply, say_session};
 use super::reads::make_check;
 use super::reply::Turn;

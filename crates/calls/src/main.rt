@@ -6,7 +6,7 @@ ghost use Rattle.std.specs.Prelude.{◌≤◌};
 mod changes;
 mod driver;
 mod journals;
-mod lent;
+mod lending;
 mod lower;
 mod output;
 mod payload;

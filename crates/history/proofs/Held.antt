@@ -74,11 +74,11 @@ every P a b c d e f g h i j server_application = h
 every P a b c d e f g h i j exporter = i
 every P a b c d e f g h i j resumption = j
 
-abbrev Moved : Call → (point kind ran after kindAfter ranAfter : ℕ) → Place → Type 0
-Moved c point kind ran after kindAfter ranAfter p = held_now p (held_at p point kind ran) c ≡ held_at p after kindAfter ranAfter
+abbrev Moved : Call → (point kind ran after kind_after ran_after : ℕ) → Place → Type 0
+Moved c point kind ran after kind_after ran_after p = held_now p (held_at p point kind ran) c ≡ held_at p after kind_after ran_after
 
-moved : {c : Call} {point kind ran after kindAfter ranAfter : ℕ} → Moves c point kind ran after kindAfter ranAfter → (p : Place)
-    → Moved c point kind ran after kindAfter ranAfter p
+moved : {c : Call} {point kind ran after kind_after ran_after : ℕ} → Moves c point kind ran after kind_after ran_after → (p : Place)
+    → Moved c point kind ran after kind_after ran_after p
 unfolding kind_of sets zeroes held_at
 moved (begins {suite = suite} {kind = kind} {k = k} {r = r} {psk = psk}) =
     every (Moved (Begin suite kind psk) 0 k r 1 kind 0) refl (set_itself (not (eqb kind 0))) (and-false (eqb r 1))

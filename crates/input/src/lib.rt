@@ -6,7 +6,8 @@ ghost use Rattle.std.specs.Prelude.{◌≤◌, length, IfOk};
 use std::io;
 use std::io::Read;
 
-// Reads into the front of buf until it is full or the input ends, and answers how many bytes it put there.
+// Reads into the front of buf until it is full or the input ends, and answers how many bytes it put there. After an error what
+// stands in buf is free.
 pub fn read_full<R: Read>(from: &mut R, buf: &mut [u8]) -> io::Result<usize>
     ensures { IfOk result (λ n. n ≤ length buf.new) }
 {

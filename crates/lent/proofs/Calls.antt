@@ -19,10 +19,10 @@ use Rattle.session.specs.Values.{written, verdict}
 use Rattle.session.specs.Promise.{Reply, Done, plain}
 use Rattle.session.proofs.Calls.{refused, accepted}
 use Rattle.encoding.specs.Encoding.{session_bytes, encoded, decoded}
-use Rattle.lent.specs.Called.{Called, not_aSession, numbered, counted}
+use Rattle.lent.specs.Called.{Called, not_a_session, numbered, counted}
 use Rattle.encoding.proofs.Inverse.{encodes_what_it_decodes}
 
-pub wrong_size_lem : (before : List ℕ) (c : Call) (out : List ℕ) → (length before ≡ session_bytes → ⊥) → Called before c out before (counted not_aSession 0 out)
+pub wrong_size_lem : (before : List ℕ) (c : Call) (out : List ℕ) → (length before ≡ session_bytes → ⊥) → Called before c out before (counted not_a_session 0 out)
 wrong_size_lem before c out h = record { another_size = λ _. (refl, refl); called = λ n. absurd (h n); refused = λ _. refl }
 
 module _ (before : List ℕ) (c : Call) {s : Session} (n : length before ≡ session_bytes) (y : Bytes before)

@@ -8,8 +8,8 @@ use Rattle.session.specs.Promise.{Reply, Done}
 use Rattle.encoding.specs.Encoding.{session_bytes, encoded, decoded}
 
 -- what is answered where the buffer does not have a session's size; no refusal has this number
-abbrev pub not_aSession : ℕ
-not_aSession = 255
+abbrev pub not_a_session : ℕ
+not_a_session = 255
 
 -- the reply of a call that writes nothing, of one that writes, and of one that says yes (1) or no
 abbrev pub numbered : ℕ → Reply
@@ -24,7 +24,7 @@ judging n said = record { number = n; count = 0; verdict = eqb said 1; output = 
 -- The call c on the session's bytes before, which left the bytes after and gave that reply; out is the output that it was lent.
 pub record Called (before : List ℕ) (c : Call) (out after : List ℕ) (given : Reply) : Type 0 where
   -- A buffer of another size: nothing is done.
-  pub another_size : (length before ≡ session_bytes → ⊥) → (after ≡ before) × (given ≡ counted not_aSession 0 out)
+  pub another_size : (length before ≡ session_bytes → ⊥) → (after ≡ before) × (given ≡ counted not_a_session 0 out)
   -- Else all that the call promises of the session that the bytes encode, and the bytes after it encode the session after it.
   pub called : length before ≡ session_bytes → (s : Session) × (Done (decoded before) c s given) × (after ≡ encoded s)
   -- A call that is not accepted changes no byte.
@@ -32,5 +32,5 @@ pub record Called (before : List ℕ) (c : Call) (out after : List ℕ) (given :
 
 -- Bytes that are made a fresh session.
 pub record MadeFresh (before after : List ℕ) (r : ℕ) : Type 0 where
-  pub another_size : (length before ≡ session_bytes → ⊥) → (r ≡ not_aSession) × (after ≡ before)
+  pub another_size : (length before ≡ session_bytes → ⊥) → (r ≡ not_a_session) × (after ≡ before)
   pub made : length before ≡ session_bytes → (r ≡ 0) × (after ≡ encoded (session_of (blank_at fresh)))

@@ -82,13 +82,13 @@ accepted-reply : (b : Book) (c : Call) {K : List ℕ} {n k : ℕ} {v : Bool} {ou
     → v ≡ verdict b c → output ≡ fronted K (lent c)
     → ◌≡◌ {A = Reply} (record { number = n; count = k; verdict = v; output = output }) (reply b c)
 unfolding reply_if
-accepted-reply b c zero en ek eK ev eo =
+accepted-reply b c zero en ek e_kind ev eo =
     (λ i. record {
       number = (en ∙ sym zero) i;
-      count = (ek ∙ ap length eK) i;
+      count = (ek ∙ ap length e_kind) i;
       verdict = ev i;
       output =
-          (eo ∙ ap (λ (l : List ℕ). fronted l (lent c)) eK) i;
+          (eo ∙ ap (λ (l : List ℕ). fronted l (lent c)) e_kind) i;
     })
     ∙ sym (ap (reply_if b c) (eq-eqb (number b c) 0 zero))
 
