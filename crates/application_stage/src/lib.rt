@@ -1,10 +1,12 @@
 // Application: the secrets for application data.
 #![tactic(auto)]
 
-ghost use Rattle.std.specs.Prelude.{◌≡◌, []};
+ghost use Rattle.std.specs.Prelude.{◌≡◌, [], length};
+ghost use Rattle.refusal.specs.Refusal.{number};
 ghost use Rattle.book.specs.Call.{Call};
 ghost use Rattle.book.specs.Refusals.{application_number};
-ghost use Rattle.session.specs.Promise.{Done, plain};
+ghost use Rattle.session.specs.Promise.{Done, after, plain};
+ghost use Rattle.encoding.specs.Encoding.{session_bytes};
 ghost use Rattle.lent.specs.Called.{Called, numbered};
 ghost use Rattle.application_stage.specs.Kept.{ApplicationKept};
 
@@ -15,16 +17,16 @@ use derived_secrets::{ApplicationSecrets, application_secrets};
 use encoder::encode;
 use encoding::SESSION_BYTES;
 use lent::NOT_A_SESSION;
-use refusal::{Answer, refuse_if};
-use session::{Outcome, Session};
-use suite_hash::running::finish;
+use refusal::{Refusal, refuse_if};
+use session::Session;
 
-// The decision, by plain numbers, as its definition reads (book/specs/Refusals).
-fn application_number(point: u16, stage: u16) -> u8
-    ensures { result ≡ application_number point stage }
+// Whether Application is refused, as its definition reads (book/specs/Refusals).
+#[tactic(auto, unfolding(book::specs::Refusals::application_number))]
+fn judge(point: u16, stage: u16) -> Result<(), Refusal>
+    ensures { number result ≡ application_number point stage }
 {
     let ready = (point == HANDSHAKE) & (stage == AFTER_SERVER_FINISHED);
-    refuse_if(!ready, 1, 0)
+    refuse_if(!ready, Refusal::NotAllowedHere)
 }
 
 // The session with the secrets in their places.
@@ -43,49 +45,43 @@ fn application_kept(mut s: Session, chain: [u8; 48], made: ApplicationSecrets) -
 }
 
 // At Handshake, after the server's Finished; goes to Application. Refusal 1.
-pub fn application(s: Session) -> Outcome
-    ensures { Done s Call.Application result.session (plain result.answer) }
+pub fn application(s: Session) -> Result<Session, Refusal>
+    ensures { Done s Call.Application (after s result) (plain result) }
 {
-    let number = application_number(s.point, s.stage);
-    if number != 0 {
-        return Outcome {
-            session: s,
-            answer: Answer::decided(number, 0),
-        };
-    }
+    judge(s.point, s.stage)?;
     let suite = s.suite;
     let running = s.transcript;
     let handshake = s.chain;
-    let hash = finish(suite, running);
+    let hash = running.digest(suite);
     let chain = master_secret(suite, handshake);
     let made = application_secrets(suite, chain, hash);
-    let next = application_kept(s, chain, made);
-    Outcome {
-        session: next,
-        answer: Answer::decided(0, 0),
-    }
+    Ok(application_kept(s, chain, made))
 }
 
-// The same on the bytes of a session, which is decoded again when the secrets are made: no session lies on the stack while
-// they are.
+// On the bytes of a session, which is decoded again when the secrets are made: no session lies on the stack while they are.
+fn change(session: &mut [u8]) -> Result<(), Refusal>
+    requires { length session.old ≡ session_bytes }
+    ensures { Called session.old Call.Application [] session.new (numbered (number result)) }
+{
+    let before = decode(session);
+    judge(before.point, before.stage)?;
+    let suite = before.suite;
+    let running = before.transcript;
+    let handshake = before.chain;
+    let hash = running.digest(suite);
+    let chain = master_secret(suite, handshake);
+    let made = application_secrets(suite, chain, hash);
+    let after = application_kept(decode(session), chain, made);
+    encode(after, session);
+    Ok(())
+}
+
+// The same on the bytes of a session.
 pub fn application_lent(session: &mut [u8]) -> u8
     ensures { Called session.old Call.Application [] session.new (numbered result) }
 {
     if session.len() != SESSION_BYTES {
         return NOT_A_SESSION;
     }
-    let before = decode(session);
-    let number = application_number(before.point, before.stage);
-    if number != 0 {
-        return number;
-    }
-    let suite = before.suite;
-    let running = before.transcript;
-    let handshake = before.chain;
-    let hash = finish(suite, running);
-    let chain = master_secret(suite, handshake);
-    let made = application_secrets(suite, chain, hash);
-    let after = application_kept(decode(session), chain, made);
-    encode(after, session);
-    0
+    refusal::number(change(session))
 }

@@ -1,79 +1,96 @@
 // The records of the input, one behind the other.
+ghost use Rattle.std.specs.Prelude.{◌<◌, length, IfSome};
+
 use super::changes::change;
-use super::journals::make_read;
-use super::lending::lend;
-use super::output::{say_count, say_reply, say_session};
-use super::reads::make_check;
-use super::reply::Turn;
+use super::journals::{make_read, make_write};
+use super::lower::{
+    make_derive_secret, make_expand, make_expand_label, make_extract, make_hash, make_hmac,
+};
+use super::output::say_session;
+use super::payload::Payload;
+use super::reads::{make_binder, make_check, make_export, make_finished, make_keys};
+use super::reply::Reply;
 use frames::{Frame, read};
 use session::{Session, fresh};
-use std::io;
-use std::io::Stdout;
+use std::io::{Print, Stdout};
+use std::{fmt, io};
 
-// The session, the number of records, and whether the last of them is bad.
-#[derive(Clone, Copy)]
-struct Ran {
-    session: Session,
-    records: u64,
-    bad: bool,
-}
-
-// Makes the call of one record.
-fn run_one(s: Session, kind: u16, payload: &[u8], out: &mut [u8]) -> Turn {
+// Makes the call of one record; none where it is no call that can be made. No enum of kinds: each number stands once,
+// beside its call.
+fn make<'a>(s: &mut Session, kind: u16, payload: &[u8], out: &'a mut [u8]) -> Option<Reply<'a>> {
+    let p = Payload(payload);
     match kind {
-        0..=8 => change(s, kind, payload),
-        103 => Turn::same(s, make_check(s, payload)),
-        302 => Turn::same(s, make_read(payload)),
-        _ => Turn::same(s, lend(s, kind, payload, out)),
+        1..=8 => change(s, kind, p),
+        101 => make_keys(*s, p, out),
+        102 => make_finished(*s, p, out),
+        103 => make_check(*s, p),
+        104 => make_binder(*s, p, out),
+        105 => make_export(*s, p, out),
+        201 => make_hash(p, out),
+        202 => make_hmac(p, out),
+        203 => make_extract(p, out),
+        204 => make_expand(p, out),
+        205 => make_expand_label(p, out),
+        206 => make_derive_secret(p, out),
+        301 => make_write(p, out),
+        302 => make_read(p),
+        _ => None,
     }
 }
 
-fn run_all(stdout: Stdout, input: &[u8], out: &mut [u8]) -> io::Result<Ran> {
-    let mut session = fresh();
-    let mut at: usize = 0;
-    let mut records: u64 = 0;
-    while at < input.len() {
-        records += 1;
-        let frame = read(input, at);
-        let Frame::Record {
+// The first record: its kind, its payload, and what stands behind it; none where it is cut short.
+#[tactic(auto, using(frames::proofs::Laws::within))]
+fn first(input: &[u8]) -> Option<(u16, &[u8], &[u8])>
+    ensures { IfSome result (λ r. length r.2.now < length input.now) }
+{
+    match read(input, 0) {
+        Frame::Record {
             kind,
             start,
-            len: _,
             next,
-        } = frame
-        else {
-            return Ok(Ran {
-                session,
-                records,
-                bad: true,
-            });
-        };
-        let turn = run_one(session, kind, &input[start..next], out);
-        session = turn.session;
-        let reply = turn.reply;
-        let good = say_reply(stdout, records, kind, reply, out)?;
-        if !good {
-            return Ok(Ran {
-                session,
-                records,
-                bad: true,
-            });
-        }
-        at = next;
+            ..
+        } => Some((kind, &input[start..next], &input[next..])),
+        _ => None,
     }
-    Ok(Ran {
-        session,
-        records,
-        bad: false,
-    })
+}
+
+// What the list comes to: the number of its records, or the ordinal of a bad one.
+#[derive(Clone, Copy)]
+enum Ending {
+    End(u64),
+    Bad(u64),
+}
+
+impl fmt::Display for Ending {
+    fn fmt<W: fmt::Write>(&self, f: &mut fmt::Formatter<W>) -> fmt::Result {
+        match self {
+            Ending::End(records) => write!(f, "end {records}"),
+            Ending::Bad(ordinal) => write!(f, "bad {ordinal}"),
+        }
+    }
+}
+
+fn run_all(stdout: Stdout, s: &mut Session, input: &[u8], out: &mut [u8]) -> io::Result<Ending> {
+    let mut records = 0;
+    let mut rest = input;
+    // No `for`: each turn goes on by a record's own length.
+    while !rest.is_empty() {
+        records += 1;
+        let Some((kind, payload, behind)) = first(rest) else {
+            return Ok(Ending::Bad(records));
+        };
+        let Some(reply) = make(s, kind, payload, out) else {
+            return Ok(Ending::Bad(records));
+        };
+        println!(stdout; "{records} {kind} {reply}")?;
+        rest = behind;
+    }
+    Ok(Ending::End(records))
 }
 
 pub(crate) fn run(stdout: Stdout, input: &[u8], out: &mut [u8]) -> io::Result<()> {
-    let ran = run_all(stdout, input, out)?;
-    if ran.bad {
-        say_count(stdout, b"bad", ran.records)?;
-    } else {
-        say_count(stdout, b"end", ran.records)?;
-    }
-    say_session(stdout, ran.session)
+    let mut session = fresh();
+    let ending = run_all(stdout, &mut session, input, out)?;
+    println!(stdout; "{ending}")?;
+    say_session(stdout, &session)
 }

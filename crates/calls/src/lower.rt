@@ -1,104 +1,64 @@
 // The lower calls: kinds 201 to 206.
-use super::payload::field_at;
+use super::payload::Payload;
 use super::reply::Reply;
 use extract::{extract, hmac};
-use frames::{number2, number4};
 use hkdf::expand::expand;
 use hkdf::label::{derive_secret, expand_label};
 use oneshot::hash;
 
 // suite 2, room 4, input
-pub(crate) fn make_hash(p: &[u8], lent: &mut [u8]) -> Reply {
-    if p.len() < 6 {
-        return Reply::Bad;
-    }
-    let room = lent.len();
-    let answer = hash(number2(p, 0), &p[6..], lent);
-    Reply::of(answer, room)
+pub(crate) fn make_hash<'a>(mut p: Payload, out: &'a mut [u8]) -> Option<Reply<'a>> {
+    let suite = p.number2()?;
+    let lent = p.lend(out)?;
+    let answer = hash(suite, p.rest(), lent);
+    Some(Reply::Lent(answer, lent))
 }
 
 // suite 2, room 4, key size 4, key, message
-pub(crate) fn make_hmac(p: &[u8], lent: &mut [u8]) -> Reply {
-    let key = field_at(p, 6);
-    if !key.there {
-        return Reply::Bad;
-    }
-    let from = key.from;
-    let to = key.to;
-    let room = lent.len();
-    let answer = hmac(number2(p, 0), &p[from..to], &p[to..], lent);
-    Reply::of(answer, room)
+pub(crate) fn make_hmac<'a>(mut p: Payload, out: &'a mut [u8]) -> Option<Reply<'a>> {
+    let suite = p.number2()?;
+    let lent = p.lend(out)?;
+    let key = p.field()?;
+    let answer = hmac(suite, key, p.rest(), lent);
+    Some(Reply::Lent(answer, lent))
 }
 
 // suite 2, room 4, salt size 4, salt, input
-pub(crate) fn make_extract(p: &[u8], lent: &mut [u8]) -> Reply {
-    let salt = field_at(p, 6);
-    if !salt.there {
-        return Reply::Bad;
-    }
-    let from = salt.from;
-    let to = salt.to;
-    let room = lent.len();
-    let answer = extract(number2(p, 0), &p[from..to], &p[to..], lent);
-    Reply::of(answer, room)
+pub(crate) fn make_extract<'a>(mut p: Payload, out: &'a mut [u8]) -> Option<Reply<'a>> {
+    let suite = p.number2()?;
+    let lent = p.lend(out)?;
+    let salt = p.field()?;
+    let answer = extract(suite, salt, p.rest(), lent);
+    Some(Reply::Lent(answer, lent))
 }
 
 // suite 2, length 4, room 4, secret size 4, secret, info
-pub(crate) fn make_expand(p: &[u8], lent: &mut [u8]) -> Reply {
-    let secret = field_at(p, 10);
-    if !secret.there {
-        return Reply::Bad;
-    }
-    let from = secret.from;
-    let to = secret.to;
-    let asked = number4(p, 2);
-    let room = lent.len();
-    let answer = expand(number2(p, 0), &p[from..to], &p[to..], asked, lent);
-    Reply::of(answer, room)
+pub(crate) fn make_expand<'a>(mut p: Payload, out: &'a mut [u8]) -> Option<Reply<'a>> {
+    let suite = p.number2()?;
+    let asked = p.number4()?;
+    let lent = p.lend(out)?;
+    let secret = p.field()?;
+    let answer = expand(suite, secret, p.rest(), asked, lent);
+    Some(Reply::Lent(answer, lent))
 }
 
 // suite 2, length 4, room 4, secret size 4, secret, label size 4, label, context
-pub(crate) fn make_expand_label(p: &[u8], lent: &mut [u8]) -> Reply {
-    let secret = field_at(p, 10);
-    let from = secret.from;
-    let to = secret.to;
-    let label = field_at(p, to);
-    if !secret.there {
-        return Reply::Bad;
-    }
-    if !label.there {
-        return Reply::Bad;
-    }
-    let start = label.from;
-    let end = label.to;
-    let asked = number4(p, 2);
-    let room = lent.len();
-    let answer = expand_label(
-        number2(p, 0),
-        &p[from..to],
-        &p[start..end],
-        &p[end..],
-        asked,
-        lent,
-    );
-    Reply::of(answer, room)
+pub(crate) fn make_expand_label<'a>(mut p: Payload, out: &'a mut [u8]) -> Option<Reply<'a>> {
+    let suite = p.number2()?;
+    let asked = p.number4()?;
+    let lent = p.lend(out)?;
+    let secret = p.field()?;
+    let label = p.field()?;
+    let answer = expand_label(suite, secret, label, p.rest(), asked, lent);
+    Some(Reply::Lent(answer, lent))
 }
 
 // suite 2, room 4, secret size 4, secret, label size 4, label, messages
-pub(crate) fn make_derive_secret(p: &[u8], lent: &mut [u8]) -> Reply {
-    let secret = field_at(p, 6);
-    let from = secret.from;
-    let to = secret.to;
-    let label = field_at(p, to);
-    if !secret.there {
-        return Reply::Bad;
-    }
-    if !label.there {
-        return Reply::Bad;
-    }
-    let start = label.from;
-    let end = label.to;
-    let room = lent.len();
-    let answer = derive_secret(number2(p, 0), &p[from..to], &p[start..end], &p[end..], lent);
-    Reply::of(answer, room)
+pub(crate) fn make_derive_secret<'a>(mut p: Payload, out: &'a mut [u8]) -> Option<Reply<'a>> {
+    let suite = p.number2()?;
+    let lent = p.lend(out)?;
+    let secret = p.field()?;
+    let label = p.field()?;
+    let answer = derive_secret(suite, secret, label, p.rest(), lent);
+    Some(Reply::Lent(answer, lent))
 }

@@ -6,17 +6,15 @@ ghost use Rattle.std.specs.Prelude.{◌≤◌};
 mod changes;
 mod driver;
 mod journals;
-mod lending;
 mod lower;
 mod output;
 mod payload;
-mod readings;
 mod reads;
 mod reply;
 
 use input::read_full;
 use std::io;
-use std::io::{Stdin, Stdout};
+use std::io::{Print, Stdin, Stdout};
 
 // The longest input.
 const MAX: usize = 3145728;
@@ -25,10 +23,11 @@ const MAX: usize = 3145728;
 fn run<const N: usize>(mut stdin: Stdin, stdout: Stdout) -> io::Result<()>
     requires { N ≤ 3145729 }
 {
+    // Fixed memory: an input that is read without an allocation can not run out of it.
     let mut input = [0u8; N];
     let n = read_full(&mut stdin, &mut input)?;
     if MAX < n {
-        return output::say(stdout, b"long\n");
+        return println!(stdout; "long");
     }
     let mut out = [0u8; 131072];
     driver::run(stdout, &input[..n], &mut out)

@@ -1,58 +1,52 @@
 // The calls that read the session: kinds 101 to 105.
-use super::payload::field_at;
+use super::payload::Payload;
 use super::reply::Reply;
-use buffer::byte_at;
 use finished::binder::binder;
 use finished::check::check;
 use finished::finished::finished;
-use frames::number4;
 use outputs::export::export;
 use outputs::keys::keys;
 use session::Session;
 
 // name 1, room 4
-pub(crate) fn make_keys(s: Session, p: &[u8], lent: &mut [u8]) -> Reply {
-    let room = lent.len();
-    let answer = keys(s, byte_at(p, 0), lent);
-    Reply::of(answer, room)
+pub(crate) fn make_keys<'a>(s: Session, mut p: Payload, out: &'a mut [u8]) -> Option<Reply<'a>> {
+    let name = p.byte()?;
+    let lent = p.lend(out)?;
+    let answer = keys(s, name, lent);
+    Some(Reply::Lent(answer, lent))
 }
 
 // side 1, room 4
-pub(crate) fn make_finished(s: Session, p: &[u8], lent: &mut [u8]) -> Reply {
-    let room = lent.len();
-    let answer = finished(s, byte_at(p, 0), lent);
-    Reply::of(answer, room)
+pub(crate) fn make_finished<'a>(
+    s: Session,
+    mut p: Payload,
+    out: &'a mut [u8],
+) -> Option<Reply<'a>> {
+    let side = p.byte()?;
+    let lent = p.lend(out)?;
+    let answer = finished(s, side, lent);
+    Some(Reply::Lent(answer, lent))
 }
 
 // side 1, received bytes
-pub(crate) fn make_check(s: Session, p: &[u8]) -> Reply {
-    if p.len() == 0 {
-        return Reply::Bad;
-    }
-    let verdict = check(s, p[0], &p[1..]);
-    Reply::judged(verdict)
+pub(crate) fn make_check<'a>(s: Session, mut p: Payload) -> Option<Reply<'a>> {
+    let side = p.byte()?;
+    Some(Reply::Judged(check(s, side, p.rest())))
 }
 
 // room 4, cut ClientHello
-pub(crate) fn make_binder(s: Session, p: &[u8], lent: &mut [u8]) -> Reply {
-    if p.len() < 4 {
-        return Reply::Bad;
-    }
-    let room = lent.len();
-    let answer = binder(s, &p[4..], lent);
-    Reply::of(answer, room)
+pub(crate) fn make_binder<'a>(s: Session, mut p: Payload, out: &'a mut [u8]) -> Option<Reply<'a>> {
+    let lent = p.lend(out)?;
+    let answer = binder(s, p.rest(), lent);
+    Some(Reply::Lent(answer, lent))
 }
 
 // name 1, length 4, room 4, label size 4, label, context
-pub(crate) fn make_export(s: Session, p: &[u8], lent: &mut [u8]) -> Reply {
-    let label = field_at(p, 9);
-    if !label.there {
-        return Reply::Bad;
-    }
-    let from = label.from;
-    let to = label.to;
-    let asked = number4(p, 1);
-    let room = lent.len();
-    let answer = export(s, byte_at(p, 0), &p[from..to], &p[to..], asked, lent);
-    Reply::of(answer, room)
+pub(crate) fn make_export<'a>(s: Session, mut p: Payload, out: &'a mut [u8]) -> Option<Reply<'a>> {
+    let name = p.byte()?;
+    let asked = p.number4()?;
+    let lent = p.lend(out)?;
+    let label = p.field()?;
+    let answer = export(s, name, label, p.rest(), asked, lent);
+    Some(Reply::Lent(answer, lent))
 }

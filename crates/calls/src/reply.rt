@@ -1,65 +1,57 @@
-// What a record's call comes to.
-use journal::record::Reading;
-use refusal::Answer;
+// What a record's call comes to, and how it is printed.
+use super::output::Hex;
+use journal::record::{Reading, kind_of};
 use refusal::verdict::Verdict;
-use session::{Outcome, Session};
+use refusal::{Answer, Refusal};
+use std::fmt;
 
 #[derive(Clone, Copy)]
-pub(crate) enum Reply {
-    // The record is no call that can be made.
-    Bad,
-    // The answer's number, the count of bytes written, and the length of the lent output.
-    Made {
-        number: u8,
-        count: usize,
-        room: usize,
-    },
-    // The answer's number; nothing is lent.
-    Plain(u8),
-    // The answer's number, and whether the received bytes are the Finished value.
-    Judged(u8, bool),
+pub(crate) enum Reply<'a> {
+    // Of a call that may change the session: its answer.
+    Changed(Result<(), Refusal>),
+    // Of a call that is lent an output: its answer, and the output after it.
+    Lent(Answer, &'a [u8]),
+    // Whether the received bytes are the Finished value.
+    Judged(Verdict),
     // What stands at a place of a journal.
     Read(Reading),
 }
 
-impl Reply {
-    pub(crate) fn of(answer: Answer, room: usize) -> Self {
-        let number = answer.number();
-        let count = answer.count();
-        Reply::Made {
-            number,
-            count,
-            room,
+// The answer's number and the count of bytes written, and what else the call gives back.
+impl fmt::Display for Reply<'_> {
+    fn fmt<W: fmt::Write>(&self, f: &mut fmt::Formatter<W>) -> fmt::Result {
+        match *self {
+            Reply::Changed(answer) => {
+                let number = refusal::number(answer);
+                write!(f, "{number} 0")
+            }
+            Reply::Lent(answer, lent) => {
+                let number = refusal::number(answer);
+                let count = refusal::count(answer);
+                let lent = Hex(lent);
+                write!(f, "{number} {count} {lent}")
+            }
+            Reply::Judged(verdict) => {
+                let number = refusal::number(verdict);
+                let word = if verdict == Ok(true) { "yes" } else { "no" };
+                write!(f, "{number} 0 {word}")
+            }
+            Reply::Read(
+                Reading::Record {
+                    call,
+                    start,
+                    len,
+                    next,
+                },
+            ) => {
+                let kind = kind_of(call);
+                write!(f, "0 0 record {kind} {start} {len} {next}")
+            }
+            Reply::Read(Reading::End) => f.write_str("0 0 end"),
+            Reply::Read(Reading::Damaged(why, place)) => {
+                let number = why.number();
+                write!(f, "{number} 0 bad {place}")
+            }
         }
-    }
-
-    pub(crate) fn judged(verdict: Verdict) -> Self {
-        let number = verdict.number();
-        let yes = verdict.is_yes();
-        Reply::Judged(number, yes)
-    }
-}
-
-// The session after a call, and what the call comes to.
-#[derive(Clone, Copy)]
-pub(crate) struct Turn {
-    pub(crate) session: Session,
-    pub(crate) reply: Reply,
-}
-
-impl Turn {
-    pub(crate) fn of(outcome: Outcome) -> Self {
-        let session = outcome.session;
-        let answer = outcome.answer;
-        let number = answer.number();
-        Turn {
-            session,
-            reply: Reply::Plain(number),
-        }
-    }
-
-    // A turn that leaves the session as it is.
-    pub(crate) fn same(session: Session, reply: Reply) -> Self {
-        Turn { session, reply }
     }
 }

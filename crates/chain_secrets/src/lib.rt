@@ -17,8 +17,8 @@ fn extract_or_zeros(suite: u16, salt: [u8; 48], input: &[u8]) -> [u8; 48]
     ensures { result ≡ placed (extract suite (take (hash_length suite) salt) (or_zeros suite (take max_message input.now))) }
 {
     let h = Suite::hash_len(suite);
-    if input.len() == 0 {
-        let zeros = buffer::zeros48();
+    if input.is_empty() {
+        let zeros = buffer::zeros::<48>();
         return extract_value(suite, &salt[..h], &zeros[..h]);
     }
     extract_value(suite, &salt[..h], input)
@@ -28,7 +28,7 @@ fn extract_or_zeros(suite: u16, salt: [u8; 48], input: &[u8]) -> [u8; 48]
 pub fn early_secret(suite: u16, psk: &[u8]) -> [u8; 48]
     ensures { result ≡ placed (early_secret suite (within max_message psk.now)) }
 {
-    let salt = buffer::zeros48();
+    let salt = buffer::zeros();
     extract_or_zeros(suite, salt, psk)
 }
 
@@ -41,6 +41,7 @@ fn next_secret(suite: u16, secret: [u8; 48], input: &[u8]) -> [u8; 48]
 }
 
 // The Handshake Secret, of the Early Secret and the shared secret.
+#[tactic(auto, unfolding(schedule::specs::Schedule::within, schedule::specs::Schedule::handshake_secret))]
 pub fn handshake_secret(suite: u16, early: [u8; 48], shared: &[u8]) -> [u8; 48]
     ensures { result ≡ placed (handshake_secret suite (take (hash_length suite) early) (within max_message shared.now)) }
 {
@@ -48,6 +49,7 @@ pub fn handshake_secret(suite: u16, early: [u8; 48], shared: &[u8]) -> [u8; 48]
 }
 
 // The Master Secret, of the Handshake Secret.
+#[tactic(auto, unfolding(schedule::specs::Schedule::master_secret))]
 pub fn master_secret(suite: u16, handshake: [u8; 48]) -> [u8; 48]
     ensures { result ≡ placed (master_secret suite (take (hash_length suite) handshake)) }
 {

@@ -1,4 +1,5 @@
 // The secrets derived from those of the stages (RFC 8446, section 7.1). A key is prepared once for all that is derived from it.
+// Each function is a stage's lines of the RFC's diagram; one over all stages would be a table of labels and hide them.
 #![tactic(auto)]
 
 ghost use Rattle.std.specs.Prelude.{◌≡◌, [], take};
@@ -39,10 +40,10 @@ pub struct ApplicationSecrets {
 pub fn binder_key(suite: u16, kind: u8, early: [u8; 48]) -> [u8; 48]
     ensures { result ≡ placed (derive_secret suite (take (hash_length suite) early) (label (binder_of kind)) []) }
 {
-    if kind == 1 {
-        return over_nothing(suite, early, b"ext binder");
+    match kind {
+        1 => over_nothing(suite, early, b"ext binder"),
+        _ => over_nothing(suite, early, b"res binder"),
     }
-    over_nothing(suite, early, b"res binder")
 }
 
 pub fn early_secrets(suite: u16, early: [u8; 48], transcript: [u8; 48]) -> EarlySecrets
@@ -52,10 +53,7 @@ pub fn early_secrets(suite: u16, early: [u8; 48], transcript: [u8; 48]) -> Early
     let k = ready(suite, early);
     let client = derive(suite, k, b"c e traffic", &transcript[..h]);
     let exporter = derive(suite, k, b"e exp master", &transcript[..h]);
-    EarlySecrets {
-        client: client,
-        exporter: exporter,
-    }
+    EarlySecrets { client, exporter }
 }
 
 pub fn handshake_secrets(suite: u16, handshake: [u8; 48], transcript: [u8; 48]) -> HandshakeSecrets
@@ -65,10 +63,7 @@ pub fn handshake_secrets(suite: u16, handshake: [u8; 48], transcript: [u8; 48]) 
     let k = ready(suite, handshake);
     let client = derive(suite, k, b"c hs traffic", &transcript[..h]);
     let server = derive(suite, k, b"s hs traffic", &transcript[..h]);
-    HandshakeSecrets {
-        client: client,
-        server: server,
-    }
+    HandshakeSecrets { client, server }
 }
 
 pub fn application_secrets(suite: u16, master: [u8; 48], transcript: [u8; 48]) -> ApplicationSecrets
@@ -80,9 +75,9 @@ pub fn application_secrets(suite: u16, master: [u8; 48], transcript: [u8; 48]) -
     let server = derive(suite, k, b"s ap traffic", &transcript[..h]);
     let exporter = derive(suite, k, b"exp master", &transcript[..h]);
     ApplicationSecrets {
-        client: client,
-        server: server,
-        exporter: exporter,
+        client,
+        server,
+        exporter,
     }
 }
 

@@ -20,11 +20,11 @@ const EMPTY_384: [u8; 48] = [
 ];
 
 // The digest of no bytes, in 48 bytes with zeros behind it.
+#[tactic(auto, using(crate::proofs::Empty::empty_256, crate::proofs::Empty::empty_384), unfolding(suite_hash::specs::Hash::hash, suite_hash::specs::Variants::variant_of, buffer::specs::Buffer::placed, buffer::specs::Buffer::fronted, buffer::specs::Buffer::zeros))]
 pub fn empty_digest(suite: u16) -> [u8; 48]
     ensures { result ≡ placed (hash suite []) }
 {
-    let hash = Suite::hash(suite);
-    match hash {
+    match Suite::hash(suite) {
         Hash::Sha256 => EMPTY_256,
         Hash::Sha384 => EMPTY_384,
     }

@@ -27,7 +27,7 @@ pub fn tls_exporter(
     ensures { Answered (expand_label_number suite (hash_length suite) 8 (hash_length suite) asked (length out.old)) (tls_exporter suite (take (hash_length suite) secret) (within max_label label.now) (within max_input context.now) asked) out.old result out.new }
 {
     let h = Suite::hash_len(suite);
-    let n = buffer::least(MAX_LABEL, label.len());
+    let n = label.len().min(MAX_LABEL);
     let derived = over_nothing(suite, secret, &label[..n]);
     let hashed = digest(suite, context);
     expand_label(suite, &derived[..h], b"exporter", &hashed[..h], asked, out)

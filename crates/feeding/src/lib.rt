@@ -5,30 +5,22 @@ mod messages;
 mod numbers;
 
 ghost use Rattle.book.specs.Call.{Call};
-ghost use Rattle.session.specs.Promise.{Done, plain};
+ghost use Rattle.session.specs.Promise.{Done, after, plain};
 
 use buffer::byte_at;
 use messages::stage_after;
-use numbers::feed_number;
-use refusal::Answer;
-use session::{Outcome, Session};
-use suite_hash::running::absorb;
+use numbers::judge;
+use refusal::Refusal;
+use session::Session;
 
 // Absorbs the message into the transcript. Refusals 1, 7, 8 and 9.
-pub fn feed(mut s: Session, message: &[u8]) -> Outcome
-    ensures { Done s (Call.Feed message.now) result.session (plain result.answer) }
+pub fn feed(mut s: Session, message: &[u8]) -> Result<Session, Refusal>
+    ensures { Done s (Call.Feed message.now) (after s result) (plain result) }
 {
-    let number = feed_number(s.point, s.stage, s.transcript.count, message);
-    if number == 0 {
-        let before = s.transcript;
-        let transcript = absorb(s.suite, before, message);
-        let first = byte_at(message, 0);
-        let stage = stage_after(s.stage, first);
-        s.stage = stage;
-        s.transcript = transcript;
-    }
-    Outcome {
-        session: s,
-        answer: Answer::decided(number, 0),
-    }
+    judge(s.point, s.stage, s.transcript.count, message)?;
+    let mut transcript = s.transcript;
+    transcript.absorb(s.suite, message);
+    s.transcript = transcript;
+    s.stage = stage_after(s.stage, byte_at(message, 0));
+    Ok(s)
 }

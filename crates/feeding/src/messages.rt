@@ -1,5 +1,5 @@
 // Handshake messages: what Feed judges of one.
-ghost use Rattle.std.specs.Prelude.{◌≡◌, cond, ◌<◌};
+ghost use Rattle.std.specs.Prelude.{◌≡◌, ◌<◌};
 ghost use Rattle.book.specs.Messages.{length_field, whole_message, stage_after, type_taken};
 
 use book::messages::{
@@ -12,18 +12,13 @@ use book::points::{
 };
 use buffer::byte_at;
 
-fn wide(x: u8) -> u64
-    ensures { (result ≡ x) × (result < 256) }
-{
-    x as u64
-}
-
+// The 3-byte length behind the type, high byte first.
 fn length_field(m: &[u8]) -> u64
     ensures { (result ≡ length_field m.now) × (result < 16777216) }
 {
-    let high = wide(byte_at(m, 1));
-    let middle = wide(byte_at(m, 2));
-    let low = wide(byte_at(m, 3));
+    let high = u64::from(byte_at(m, 1));
+    let middle = u64::from(byte_at(m, 2));
+    let low = u64::from(byte_at(m, 3));
     high * 65536 + middle * 256 + low
 }
 
@@ -35,42 +30,34 @@ pub(crate) fn is_whole(m: &[u8]) -> bool
     (4 <= n) & ((n <= MAX_LENGTH) & (field + 4 == (n as u64)))
 }
 
-fn choose(test: bool, a: u16, rest: u16) -> u16
-    ensures { result ≡ cond test a rest }
-{
-    if test { a } else { rest }
-}
-
 // How far the messages have come after one more of that type.
 pub(crate) fn stage_after(stage: u16, kind: u8) -> u16
     ensures { result ≡ stage_after stage kind }
 {
-    let hello = (stage == NO_MESSAGE) & (kind == CLIENT_HELLO);
-    let reply = (stage == AFTER_CLIENT_HELLO) & (kind == SERVER_HELLO);
-    let server = (stage == AFTER_SERVER_HELLO) & (kind == FINISHED);
-    let client = (stage == AFTER_SERVER_FINISHED) & (kind == FINISHED);
-    let finished = choose(
-        server,
-        AFTER_SERVER_FINISHED,
-        choose(client, AFTER_CLIENT_FINISHED, stage),
-    );
-    choose(
-        hello,
-        AFTER_CLIENT_HELLO,
-        choose(reply, AFTER_SERVER_HELLO, finished),
-    )
+    match (stage, kind) {
+        (NO_MESSAGE, CLIENT_HELLO) => AFTER_CLIENT_HELLO,
+        (AFTER_CLIENT_HELLO, SERVER_HELLO) => AFTER_SERVER_HELLO,
+        (AFTER_SERVER_HELLO, FINISHED) => AFTER_SERVER_FINISHED,
+        (AFTER_SERVER_FINISHED, FINISHED) => AFTER_CLIENT_FINISHED,
+        _ => stage,
+    }
 }
 
 // Whether a type is taken at a stage.
 pub(crate) fn is_taken(stage: u16, kind: u8) -> bool
     ensures { result ≡ type_taken stage kind }
 {
-    let last = (kind == CERTIFICATE_VERIFY) | (kind == FINISHED);
-    let server = (kind == ENCRYPTED_EXTENSIONS)
-        | ((kind == CERTIFICATE) | ((kind == CERTIFICATE_REQUEST) | last));
-    let client = (kind == END_OF_EARLY_DATA) | ((kind == CERTIFICATE) | last);
-    ((stage == NO_MESSAGE) & (kind == CLIENT_HELLO))
-        | (((stage == AFTER_CLIENT_HELLO) & (kind == SERVER_HELLO))
-            | (((stage == AFTER_SERVER_HELLO) & server)
-                | ((stage == AFTER_SERVER_FINISHED) & client)))
+    match stage {
+        NO_MESSAGE => kind == CLIENT_HELLO,
+        AFTER_CLIENT_HELLO => kind == SERVER_HELLO,
+        AFTER_SERVER_HELLO => matches!(
+            kind,
+            ENCRYPTED_EXTENSIONS | CERTIFICATE | CERTIFICATE_REQUEST | CERTIFICATE_VERIFY | FINISHED
+        ),
+        AFTER_SERVER_FINISHED => matches!(
+            kind,
+            END_OF_EARLY_DATA | CERTIFICATE | CERTIFICATE_VERIFY | FINISHED
+        ),
+        _ => false,
+    }
 }

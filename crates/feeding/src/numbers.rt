@@ -1,12 +1,13 @@
-// The decision of Feed, by plain numbers, as its definition reads (book/specs/Refusals).
+// The decision of Feed, test by test as its definition reads (book/specs/Refusals).
 ghost use Rattle.std.specs.Prelude.{◌≡◌, ◌+◌, leb};
+ghost use Rattle.refusal.specs.Refusal.{number};
 ghost use Rattle.book.specs.Refusals.{feed_number, taking};
 ghost use Rattle.book.specs.Messages.{max_transcript};
 
 use super::messages::{is_taken, is_whole};
 use book::points::{AFTER_SERVER_FINISHED, AFTER_SERVER_HELLO, APPLICATION, EARLY, HANDSHAKE};
 use buffer::byte_at;
-use refusal::refuse_if;
+use refusal::{Refusal, refuse_if};
 
 const MAX_TRANSCRIPT: u64 = 1048576;
 
@@ -14,30 +15,31 @@ const MAX_TRANSCRIPT: u64 = 1048576;
 fn is_taking(point: u16, stage: u16) -> bool
     ensures { result ≡ taking point stage }
 {
-    ((point == EARLY) & (stage < AFTER_SERVER_HELLO))
-        | (((point == HANDSHAKE) & (stage == AFTER_SERVER_HELLO))
-            | ((point == APPLICATION) & (stage == AFTER_SERVER_FINISHED)))
+    match point {
+        EARLY => stage < AFTER_SERVER_HELLO,
+        HANDSHAKE => stage == AFTER_SERVER_HELLO,
+        APPLICATION => stage == AFTER_SERVER_FINISHED,
+        _ => false,
+    }
 }
 
-// Arranged so that no sum overflows, whatever was fed.
+// Whether n bytes more may be fed, whatever was fed: a session's count can be any number.
 fn has_room(fed: u64, n: u64) -> bool
     ensures { result ≡ leb (fed + n) max_transcript }
 {
-    if MAX_TRANSCRIPT < fed {
-        return false;
+    match fed.checked_add(n) {
+        Some(sum) => sum <= MAX_TRANSCRIPT,
+        None => false,
     }
-    n <= MAX_TRANSCRIPT - fed
 }
 
-pub(crate) fn feed_number(point: u16, stage: u16, fed: u64, message: &[u8]) -> u8
-    ensures { result ≡ feed_number point stage fed message.now }
+#[tactic(auto, unfolding(book::specs::Refusals::feed_number))]
+pub(crate) fn judge(point: u16, stage: u16, fed: u64, message: &[u8]) -> Result<(), Refusal>
+    ensures { number result ≡ feed_number point stage fed message.now }
 {
-    let open = is_taking(point, stage);
-    let whole = is_whole(message);
-    let first = byte_at(message, 0);
-    let taken = is_taken(stage, first);
-    let n = message.len() as u64;
-    let fits = has_room(fed, n);
-    let last = refuse_if(!taken, 8, refuse_if(!fits, 9, 0));
-    refuse_if(!open, 1, refuse_if(!whole, 7, last))
+    let taken = is_taken(stage, byte_at(message, 0));
+    refuse_if(!is_taking(point, stage), Refusal::NotAllowedHere)?;
+    refuse_if(!is_whole(message), Refusal::MessageLength)?;
+    refuse_if(!taken, Refusal::MessageType)?;
+    refuse_if(!has_room(fed, message.len() as u64), Refusal::InputTooLong)
 }

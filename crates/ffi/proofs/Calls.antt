@@ -6,8 +6,8 @@ use mathlib.Core.List.{List, []}
 use lib.ListN.{length}
 use lib.Dec.{eqb}
 use Rattle.buffer.specs.Buffer.{Bytes}
-use Rattle.refusal.specs.declared.Answer.{Answer}
-use Rattle.refusal.specs.declared.verdict.Verdict.{Verdict}
+use Rattle.refusal.specs.Refusal.{Answer}
+use Rattle.refusal.specs.Verdict.{Verdict}
 use Rattle.refusal.specs.Refusal as Refusal
 use Rattle.refusal.specs.Answered.{Answered}
 use Rattle.refusal.specs.Reported.{Reported}

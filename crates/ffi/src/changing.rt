@@ -1,5 +1,6 @@
 // The calls that may change a session. Each answers its number: 0, a refusal, or 255 for a buffer that does not have a session's
-// size; only where it is 0 is the buffer written.
+// size; only where it is 0 is the buffer written. The size is tested in each call: a function that took the call as a closure
+// would require that it may be called, and no public function here requires anything (history/proofs/Contracts).
 ghost use Rattle.std.specs.Prelude.{[]};
 ghost use Rattle.book.specs.Call.{Call};
 ghost use Rattle.lent.specs.Called.{Called, numbered};

@@ -10,6 +10,7 @@ ghost use Rattle.refusal.specs.Reported.{Reported};
 use super::report::report;
 
 #[unsafe(no_mangle)]
+#[tactic(auto, using(crate::proofs::Calls::reported))]
 pub extern "C" fn bindcricket_hash(
     suite: u16,
     input: &[u8],
@@ -22,6 +23,7 @@ pub extern "C" fn bindcricket_hash(
 }
 
 #[unsafe(no_mangle)]
+#[tactic(auto, using(crate::proofs::Calls::reported))]
 pub extern "C" fn bindcricket_hmac(
     suite: u16,
     key: &[u8],
@@ -35,6 +37,7 @@ pub extern "C" fn bindcricket_hmac(
 }
 
 #[unsafe(no_mangle)]
+#[tactic(auto, using(crate::proofs::Calls::reported))]
 pub extern "C" fn bindcricket_extract(
     suite: u16,
     salt: &[u8],
@@ -48,6 +51,7 @@ pub extern "C" fn bindcricket_extract(
 }
 
 #[unsafe(no_mangle)]
+#[tactic(auto, using(crate::proofs::Calls::reported))]
 pub extern "C" fn bindcricket_expand(
     suite: u16,
     secret: &[u8],
@@ -65,6 +69,7 @@ pub extern "C" fn bindcricket_expand(
 }
 
 #[unsafe(no_mangle)]
+#[tactic(auto, using(crate::proofs::Calls::reported))]
 pub extern "C" fn bindcricket_expand_label(
     suite: u16,
     secret: &[u8],
@@ -83,6 +88,7 @@ pub extern "C" fn bindcricket_expand_label(
 }
 
 #[unsafe(no_mangle)]
+#[tactic(auto, using(crate::proofs::Calls::reported))]
 pub extern "C" fn bindcricket_derive_secret(
     suite: u16,
     secret: &[u8],

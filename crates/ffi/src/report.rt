@@ -8,6 +8,6 @@ use refusal::Answer;
 pub(crate) fn report(answer: Answer, written: &mut usize) -> u8
     ensures { (result ≡ number answer) × (written.new ≡ count answer) }
 {
-    *written = answer.count();
-    answer.number()
+    *written = refusal::count(answer);
+    refusal::number(answer)
 }

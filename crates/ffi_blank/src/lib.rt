@@ -8,7 +8,7 @@ ghost use Rattle.lent.specs.Called.{Called, MadeFresh, numbered};
 use decoder::decode;
 use encoder::encode;
 use encoding::SESSION_BYTES;
-use lent::{NOT_A_SESSION, store};
+use lent::NOT_A_SESSION;
 use session::close::close;
 use session::fresh;
 
@@ -31,6 +31,6 @@ pub extern "C" fn bindcricket_close(session: &mut [u8]) -> u8
     if session.len() != SESSION_BYTES {
         return NOT_A_SESSION;
     }
-    let done = close(decode(session));
-    store(done, session)
+    encode(close(decode(session)), session);
+    0
 }

@@ -2,7 +2,7 @@
 ghost use Rattle.book.specs.Call.{Call};
 ghost use Rattle.session.specs.Promise.{Done, wrote};
 
-use super::numbers::binder_number;
+use super::numbers::judge_binder;
 use super::values::write_value;
 use refusal::Answer;
 use session::Session;
@@ -12,14 +12,9 @@ use traffic::{messages_hash, verify_data};
 pub fn binder(s: Session, hello: &[u8], out: &mut [u8]) -> Answer
     ensures { Done s (Call.Binder hello.now out.old) s (wrote result out.new) }
 {
-    let number = binder_number(s.point, s.suite, s.kind, hello, out.len());
-    if number != 0 {
-        return Answer::decided(number, 0);
-    }
-    let suite = s.suite;
-    let key = s.binder_key;
-    let hash = messages_hash(suite, hello);
-    let value = verify_data(suite, key, hash);
-    let count = write_value(suite, value, out);
-    Answer::decided(0, count)
+    judge_binder(&s, hello, out.len())?;
+    let hash = messages_hash(s.suite, hello);
+    let value = verify_data(s.suite, s.binder_key, hash);
+    let count = write_value(s.suite, value, out);
+    Ok(count)
 }

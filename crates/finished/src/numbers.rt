@@ -1,11 +1,13 @@
-// The decisions of Finished, Check and Binder, by plain numbers: each reads as its definition does (book/specs/Refusals).
+// The decisions of Finished, Check and Binder: each reads as its definition does (book/specs/Refusals).
 ghost use Rattle.std.specs.Prelude.{◌≡◌};
+ghost use Rattle.refusal.specs.Refusal.{number};
 ghost use Rattle.book.specs.Refusals.{known_side, finishing, finished_number, check_number, binder_number};
 
 use book::messages::{CLIENT_HELLO, MAX_LENGTH};
 use book::points::{AFTER_SERVER_FINISHED, AFTER_SERVER_HELLO, APPLICATION, EARLY, HANDSHAKE};
 use buffer::byte_at;
-use refusal::refuse_if;
+use refusal::{Refusal, refuse_if};
+use session::Session;
 use suite::Suite;
 
 fn is_side(side: u8) -> bool
@@ -22,35 +24,38 @@ fn is_finishing(point: u16, stage: u16, side: u8) -> bool
         | ((side == 2) & ((point == HANDSHAKE) & (stage == AFTER_SERVER_HELLO)))
 }
 
-pub(crate) fn finished_number(point: u16, stage: u16, suite: u16, side: u8, room: usize) -> u8
-    ensures { result ≡ finished_number point stage suite side room }
+#[inline(always)]
+#[tactic(auto, unfolding(book::specs::Refusals::finished_number))]
+pub(crate) fn judge_finished(s: &Session, side: u8, room: usize) -> Result<(), Refusal>
+    ensures { number result ≡ finished_number s.now.point s.now.stage s.now.suite side room }
 {
     let known = is_side(side);
-    let ready = is_finishing(point, stage, side);
-    let short = room < Suite::hash_len(suite);
-    refuse_if(
-        known & !ready,
-        1,
-        refuse_if(!known, 2, refuse_if(short, 11, 0)),
-    )
+    let ready = is_finishing(s.point, s.stage, side);
+    refuse_if(known & !ready, Refusal::NotAllowedHere)?;
+    refuse_if(!known, Refusal::Unknown)?;
+    refuse_if(room < Suite::hash_len(s.suite), Refusal::OutputTooShort)
 }
 
-pub(crate) fn check_number(point: u16, stage: u16, side: u8) -> u8
-    ensures { result ≡ check_number point stage side }
+#[inline(always)]
+#[tactic(auto, unfolding(book::specs::Refusals::check_number))]
+pub(crate) fn judge_check(s: &Session, side: u8) -> Result<(), Refusal>
+    ensures { number result ≡ check_number s.now.point s.now.stage side }
 {
     let known = is_side(side);
-    let ready = is_finishing(point, stage, side);
-    refuse_if(known & !ready, 1, refuse_if(!known, 2, 0))
+    let ready = is_finishing(s.point, s.stage, side);
+    refuse_if(known & !ready, Refusal::NotAllowedHere)?;
+    refuse_if(!known, Refusal::Unknown)
 }
 
-pub(crate) fn binder_number(point: u16, suite: u16, kind: u8, hello: &[u8], room: usize) -> u8
-    ensures { result ≡ binder_number point suite kind hello.now room }
+#[inline(always)]
+#[tactic(auto, unfolding(book::specs::Refusals::binder_number))]
+pub(crate) fn judge_binder(s: &Session, hello: &[u8], room: usize) -> Result<(), Refusal>
+    ensures { number result ≡ binder_number s.now.point s.now.suite s.now.kind hello.now room }
 {
     let n = hello.len();
-    let sized = (4 <= n) & (n <= MAX_LENGTH);
-    let first = byte_at(hello, 0);
-    let h = Suite::hash_len(suite);
-    let last = refuse_if(!(first == CLIENT_HELLO), 8, refuse_if(room < h, 11, 0));
-    let size = refuse_if(!sized, 7, last);
-    refuse_if(!(point == EARLY), 1, refuse_if(kind == 0, 3, size))
+    refuse_if(s.point != EARLY, Refusal::NotAllowedHere)?;
+    refuse_if(s.kind == 0, Refusal::NotHeld)?;
+    refuse_if(!((4 <= n) & (n <= MAX_LENGTH)), Refusal::MessageLength)?;
+    refuse_if(byte_at(hello, 0) != CLIENT_HELLO, Refusal::MessageType)?;
+    refuse_if(room < Suite::hash_len(s.suite), Refusal::OutputTooShort)
 }

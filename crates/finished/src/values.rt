@@ -1,22 +1,33 @@
 // What the calls share: a value worked out, and written.
 ghost use Rattle.std.specs.Prelude.{◌≡◌, take};
-ghost use Rattle.buffer.specs.Buffer.{after, behind};
+ghost use Rattle.buffer.specs.Buffer.{placed, after, behind};
 ghost use Rattle.suite.specs.Suite.{hash_length};
-ghost use Rattle.outputs.specs.Places.{base_place};
+ghost use Rattle.outputs.specs.Places.{base_place, finished_from};
 
 use session::Session;
 use suite::Suite;
+use traffic::verify_data;
 
 // The base secret of a side.
-pub(crate) fn base_place(s: Session, side: u8) -> [u8; 48]
-    ensures { result ≡ base_place s side }
+#[inline(always)]
+fn base_place(s: &Session, side: u8) -> [u8; 48]
+    ensures { result ≡ base_place s.now side }
 {
-    let mut r = s.server_handshake;
-    if side == 1 {
-        let client = s.client_handshake;
-        r = client;
+    match side {
+        1 => s.client_handshake,
+        _ => s.server_handshake,
     }
-    r
+}
+
+// The Finished value of a side. Inlined, so that no session lies on the stack for it.
+#[inline(always)]
+#[tactic(auto, unfolding(outputs::specs::Places::finished_from))]
+pub(crate) fn finished_value(s: &Session, side: u8) -> [u8; 48]
+    ensures { result ≡ placed (finished_from s.now side) }
+{
+    let base = base_place(s, side);
+    let hash = s.transcript.digest(s.suite);
+    verify_data(s.suite, base, hash)
 }
 
 // Writes the H bytes of a value to the front of out, and answers the index behind them.

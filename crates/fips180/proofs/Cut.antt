@@ -11,7 +11,3 @@ use Rattle.fips180.specs.Rows.{cut}
 pub cut-compress : (v : Variant) (s m : List ℕ) → cut v (compress v s m) ≡ compress v s m
 unfolding cut compress sums plus
 cut-compress v s m = simp mod-mod
-
-pub cut-cut : (v : Variant) (s : List ℕ) → cut v (cut v s) ≡ cut v s
-unfolding cut
-cut-cut v s = simp mod-mod

@@ -1,15 +1,15 @@
 -- A list that a loop fills one element at a time, and the elements of the lists that are filled so. Once for every variant.
 use mathlib.Core.Path.{◌≡◌, refl, sym, ◌∙◌}
 use mathlib.Core.List.{List}
-use Prim.Native.Nat.{ℕ, zero, suc, ◌+◌, ◌%◌, ◌^◌, ◌*◌, ◌≤◌, ◌<◌}
+use Prim.Native.Nat.{ℕ, zero, suc, ◌+◌, ◌%◌, ◌^◌, ◌≤◌, ◌<◌}
 use native.Mathlib.Numerals.{add-one}
 use native.Mathlib.Omega.{arith}
-use lib.ListN.{length, get_or, set, take, drop, length-drop}
-use lib.Seq.{get_or-take, get_or-drop, take-suc, take-suc-set, take_all, length-take-le}
+use lib.ListN.{length, get_or, set, take}
+use lib.Seq.{take-suc, take-suc-set, take_all}
 use Rattle.fips180.specs.Words.{plus}
 use Rattle.fips180.specs.Variant.{Variant}
 use Rattle.fips180.specs.Hash.{sums}
-use Rattle.fips180.specs.Rows.{constants_at, cut}
+use Rattle.fips180.specs.Rows.{cut}
 
 pub fill_step : (l r : List ℕ) {i x : ℕ} → i < length l → i < length r → take i r ≡ take i l → x ≡ get_or l i 0
     → take (i + 1) (set r i x) ≡ take (i + 1) l
@@ -19,14 +19,6 @@ pub fill_done : (l r : List ℕ) {i : ℕ} → length l ≤ i → length r ≤ i
 fill_done l r {i} h k e = sym (take_all i r k) ∙ e ∙ take_all i l h
 
 module _ (v : Variant) where
-  pub constants_length : (q : ℕ) → q * 16 + 16 ≤ length v.K → length (constants_at v q) ≡ 16
-  unfolding constants_at
-  constants_length q h = length-take-le 16 (drop (q * 16) v.K) (rw length-drop (omega arith))
-
-  pub constants_at_lem : (q i : ℕ) → i < 16 → get_or v.K (q * 16 + i) 0 ≡ get_or (constants_at v q) i 0
-  unfolding constants_at
-  constants_at_lem q i h = rw (get_or-take, get_or-drop)
-
   pub sums_at : (s x : List ℕ) (i : ℕ) → i < 8 → plus v.bits (get_or s i 0) (get_or x i 0) ≡ get_or (sums v s x) i 0
   unfolding sums
   sums_at s x zero h = refl

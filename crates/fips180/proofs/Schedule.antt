@@ -13,15 +13,6 @@ use Rattle.fips180.specs.Variant.{Variant}
 use Rattle.fips180.specs.Hash.{t1, t2, round, rounds, next_word, schedule, W}
 
 module _ (v : Variant) where
-  -- a round, from its two sums
-  pub round_eq : (s : List ℕ) (k w : ℕ) {x y p q : ℕ}
-      → x ≡ t1 v (get_or s 4 0) (get_or s 5 0) (get_or s 6 0) (get_or s 7 0) k w
-      → y ≡ t2 v (get_or s 0 0) (get_or s 1 0) (get_or s 2 0)
-      → p ≡ plus v.bits x y → q ≡ plus v.bits (get_or s 3 0) x
-      → p ∷ get_or s 0 0 ∷ get_or s 1 0 ∷ get_or s 2 0 ∷ q ∷ get_or s 4 0 ∷ get_or s 5 0 ∷ get_or s 6 0 ∷ [] ≡ round v s k w
-  unfolding round
-  round_eq s k w ex ey ep eq = cc
-
   module _ (m : List ℕ) (sixteen : length m ≡ 16) where
     pub length-schedule : (n : ℕ) → length (schedule v m n) ≡ 16 + n
     unfolding schedule

@@ -1,12 +1,13 @@
 -- Laws of bytes and words, once for every variant.
 use mathlib.Core.Path.{◌≡◌, refl, ap, ◌∙◌}
 use mathlib.Core.List.{List, ◌∷◌, ◌++◌}
-use Prim.Native.Nat.{ℕ, zero, suc, ◌+◌, ◌*◌, ◌/◌, ◌^◌, ◌≤◌, ◌<◌}
+use Prim.Native.Nat.{ℕ, zero, suc, ◌+◌, ◌*◌, ◌/◌, ◌%◌, ◌^◌, ◌≤◌, ◌<◌}
 use native.Mathlib.Numerals.{add-one}
-use native.Mathlib.Nat.{suc-add, zero-add, lt_of_lt_of_le, pow-le-pow_right, div-eq_of_lt}
+use native.Mathlib.Nat.{suc-add, zero-add, lt_of_lt_of_le, pow-le-pow_right, div-eq_of_lt, div-one}
 use native.Mathlib.Omega.{arith}
 use lib.ListN.{length, get_or, take, drop, set}
-use lib.Seq.{drop-cons, take-suc-set}
+use lib.Seq.{drop-cons, take-suc-set, take_all}
+use Rattle.std.specs.Int.{from_be_bytes, bytes_high_first, w32, w64}
 use Rattle.buffer.specs.Buffer.{zeros}
 use Rattle.fips180.specs.Words.{number_from, bytes_of}
 use Rattle.fips180.specs.Variant.{Variant}
@@ -27,9 +28,12 @@ number4 x j bs h =
     ∙ number-next _ 1 (j + 2) (j + 3) bs (omega arith) (omega arith)
     ∙ number-next _ 0 (j + 3) (j + 4) bs (omega arith) (omega arith)
 
-pub word4 : (j : ℕ) (bs : List ℕ) → j + 4 ≤ length bs
-    → ((get_or bs j 0 * 256 + get_or bs (j + 1) 0) * 256 + get_or bs (j + 2) 0) * 256 + get_or bs (j + 3) 0 ≡ number_from 0 (take 4 (drop j bs))
-word4 j bs h = rw (number4 0 j bs h) (omega arith)
+-- the word that four bytes are, as `u32::from_be_bytes` has it
+pub word4 : (bs : List ℕ) → length bs ≡ 4 → from_be_bytes w32 bs ≡ number_from 0 bs
+word4 bs l =
+    let t : take 4 bs ≡ bs = take_all 4 bs (omega arith) in
+    let e : number_from 0 bs ≡ _ = rw t at (number4 0 0 bs (omega arith)) in
+    omega (arith, e)
 
 -- one more word of a block
 pub load_step : (v : Variant) (w b : List ℕ) {i x : ℕ} → i < length w → take i w ≡ words_of v i b
@@ -49,11 +53,18 @@ number8 x j bs h =
     ∙ number-next _ 1 (j + 6) (j + 7) bs (omega arith) (omega arith)
     ∙ number-next _ 0 (j + 7) (j + 8) bs (omega arith) (omega arith)
 
-pub word8 : (j : ℕ) (bs : List ℕ) {hi lo : ℕ} → j + 8 ≤ length bs
-    → hi ≡ ((get_or bs j 0 * 256 + get_or bs (j + 1) 0) * 256 + get_or bs (j + 2) 0) * 256 + get_or bs (j + 3) 0
-    → lo ≡ ((get_or bs (j + 4) 0 * 256 + get_or bs (j + 5) 0) * 256 + get_or bs (j + 6) 0) * 256 + get_or bs (j + 7) 0
-    → hi * 4294967296 + lo ≡ number_from 0 (take 8 (drop j bs))
-word8 j bs {hi} {lo} h eh el = rw (number8 0 j bs h) (omega arith)
+pub word8 : (bs : List ℕ) → length bs ≡ 8 → from_be_bytes w64 bs ≡ number_from 0 bs
+word8 bs l =
+    let t : take 8 bs ≡ bs = take_all 8 bs (omega arith) in
+    let e : number_from 0 bs ≡ _ = rw t at (number8 0 0 bs (omega arith)) in
+    omega (arith, e)
+
+-- the bytes of a number, as `to_be_bytes` has them
+pub be_bytes : (n x : ℕ) → bytes_high_first n x ≡ bytes_of n x
+unfolding bytes_of
+be_bytes zero x = refl
+be_bytes (suc zero) x = rw div-one
+be_bytes (suc (suc n)) x = ap (λ (l : List ℕ). (x / 256 ^ suc n) % 256 ∷ l) (be_bytes (suc n) x)
 
 -- a number that n bytes hold, in k bytes more
 pub bytes_wide : (k n x : ℕ) → x < 256 ^ n → bytes_of (k + n) x ≡ zeros k ++ bytes_of n x

@@ -1,7 +1,7 @@
 -- What each function's contract tells its caller is the `Done` that a step of a run takes, and no function asks for anything.
 use Prim.Native.Nat.{ℕ}
 use mathlib.Core.Path.{◌≡◌, refl}
-use mathlib.Core.List.{List}
+use mathlib.Core.List.{List, []}
 use seplogic.Ra.Ura.{Ura}
 use base.Logic.{SProp, emp}
 use prog.Memory.{Memory}
@@ -12,13 +12,14 @@ use contract.Monad.{Fun, fact}
 use denote.Ref.{Bor, MutBor}
 use denote.Triple.Clauses.{AtExit}
 use borrow.Fn.Kinds.{ended_of}
-use Rattle.refusal.specs.declared.Answer.{Answer}
+use Rattle.std.proofs.Common.{Result, Ok}
+use Rattle.refusal.specs.declared.Refusal.{Refusal}
+use Rattle.refusal.specs.Refusal.{Answer}
 use Rattle.session.specs.declared.Session.{Session}
-use Rattle.session.specs.declared.Outcome.{Outcome}
-use Rattle.refusal.specs.declared.verdict.Verdict.{Verdict}
+use Rattle.refusal.specs.Verdict.{Verdict}
 use Rattle.outputs.specs.Verdict.{judged}
 use Rattle.book.specs.Call.Call.{Begin, Feed, Early, Handshake, Application, Complete, Update, Close, Keys, Finished, Check, Binder, Export}
-use Rattle.session.specs.Promise.{Done, plain, wrote}
+use Rattle.session.specs.Promise.{Done, after, plain, wrote}
 use Rattle.history.specs.Histories.{fresh_session, Demand3}
 use Rattle.history.proofs.Histories.{demand3}
 use Rattle.session.proofs.fresh.Reads as fresh-reads
@@ -59,67 +60,65 @@ fresh_promises r x = refl
 fresh_asks : fresh-reads.Asked tt tt ≡ Unit {0}
 fresh_asks = refl
 
-begin_promises : (κs : Lfts 1) (s : Session) (suite : ℕ) (kind : ℕ) (psk : Bor (List ℕ)) (r : Outcome)
+begin_promises : (κs : Lfts 1) (s : Session) (suite : ℕ) (kind : ℕ) (psk : Bor (List ℕ)) (r : Result Session Refusal)
     (x : AtExit (ended_of 1 begin-kinds.ps begin-kinds.r) κs) → begin-reads.Learnt κs (s, (suite, (kind, (psk, tt)))) r x ≡ Done
-    s (Begin suite kind psk.now) r.session (plain r.answer)
+    s (Begin suite kind psk.now) (after s r) (plain r)
 begin_promises κs s suite kind psk r x = refl
 
 begin_asks : (κs : Lfts 1) (s : Session) (suite : ℕ) (kind : ℕ) (psk : Bor (List ℕ)) → begin-reads.Asked κs
     (s, (suite, (kind, (psk, tt)))) ≡ Unit {0}
 begin_asks κs s suite kind psk = refl
 
-feed_promises : (κs : Lfts 1) (s : Session) (message : Bor (List ℕ)) (r : Outcome)
+feed_promises : (κs : Lfts 1) (s : Session) (message : Bor (List ℕ)) (r : Result Session Refusal)
     (x : AtExit (ended_of 1 feed-kinds.ps feed-kinds.r) κs) → feed-reads.Learnt κs (s, (message, tt)) r x ≡ Done s
-    (Feed message.now) r.session (plain r.answer)
+    (Feed message.now) (after s r) (plain r)
 feed_promises κs s message r x = refl
 
 feed_asks : (κs : Lfts 1) (s : Session) (message : Bor (List ℕ)) → feed-reads.Asked κs (s, (message, tt)) ≡ Unit {0}
 feed_asks κs s message = refl
 
-early_promises : (s : Session) (r : Outcome)
-    (x : AtExit (ended_of 0 early-kinds.ps early-kinds.r) tt) → early-reads.Learnt tt (s, tt) r x ≡ Done s Early r.session
-    (plain r.answer)
+early_promises : (s : Session) (r : Result Session Refusal)
+    (x : AtExit (ended_of 0 early-kinds.ps early-kinds.r) tt) → early-reads.Learnt tt (s, tt) r x ≡ Done s Early (after s r) (plain r)
 early_promises s r x = refl
 
 early_asks : (s : Session) → early-reads.Asked tt (s, tt) ≡ Unit {0}
 early_asks s = refl
 
-handshake_promises : (κs : Lfts 1) (s : Session) (group : ℕ) (secret : Bor (List ℕ)) (r : Outcome)
+handshake_promises : (κs : Lfts 1) (s : Session) (group : ℕ) (secret : Bor (List ℕ)) (r : Result Session Refusal)
     (x : AtExit (ended_of 1 handshake-kinds.ps handshake-kinds.r) κs) → handshake-reads.Learnt κs (s, (group, (secret, tt))) r x
-    ≡ Done s (Handshake group secret.now) r.session (plain r.answer)
+    ≡ Done s (Handshake group secret.now) (after s r) (plain r)
 handshake_promises κs s group secret r x = refl
 
 handshake_asks : (κs : Lfts 1) (s : Session) (group : ℕ) (secret : Bor (List ℕ)) → handshake-reads.Asked κs
     (s, (group, (secret, tt))) ≡ Unit {0}
 handshake_asks κs s group secret = refl
 
-application_promises : (s : Session) (r : Outcome)
+application_promises : (s : Session) (r : Result Session Refusal)
     (x : AtExit (ended_of 0 application-kinds.ps application-kinds.r) tt) → application-reads.Learnt tt (s, tt) r x ≡ Done s
-    Application r.session (plain r.answer)
+    Application (after s r) (plain r)
 application_promises s r x = refl
 
 application_asks : (s : Session) → application-reads.Asked tt (s, tt) ≡ Unit {0}
 application_asks s = refl
 
-complete_promises : (s : Session) (r : Outcome)
+complete_promises : (s : Session) (r : Result Session Refusal)
     (x : AtExit (ended_of 0 complete-kinds.ps complete-kinds.r) tt) → complete-reads.Learnt tt (s, tt) r x ≡ Done s Complete
-    r.session (plain r.answer)
+    (after s r) (plain r)
 complete_promises s r x = refl
 
 complete_asks : (s : Session) → complete-reads.Asked tt (s, tt) ≡ Unit {0}
 complete_asks s = refl
 
-update_promises : (s : Session) (side : ℕ) (r : Outcome)
+update_promises : (s : Session) (side : ℕ) (r : Result Session Refusal)
     (x : AtExit (ended_of 0 update-kinds.ps update-kinds.r) tt) → update-reads.Learnt tt (s, (side, tt)) r x ≡ Done s
-    (Update side) r.session (plain r.answer)
+    (Update side) (after s r) (plain r)
 update_promises s side r x = refl
 
 update_asks : (s : Session) (side : ℕ) → update-reads.Asked tt (s, (side, tt)) ≡ Unit {0}
 update_asks s side = refl
 
-close_promises : (s : Session) (r : Outcome)
-    (x : AtExit (ended_of 0 close-kinds.ps close-kinds.r) tt) → close-reads.Learnt tt (s, tt) r x ≡ Done s Close r.session
-    (plain r.answer)
+close_promises : (s : Session) (r : Session)
+    (x : AtExit (ended_of 0 close-kinds.ps close-kinds.r) tt) → close-reads.Learnt tt (s, tt) r x ≡ Done s Close r (wrote (Ok 0) [])
 close_promises s r x = refl
 
 close_asks : (s : Session) → close-reads.Asked tt (s, tt) ≡ Unit {0}
@@ -173,7 +172,7 @@ export_asks κs s name label context asked out = refl
 
 -- The two on the session where it lies: the same, of the clauses of their contracts in any model.
 module _ {M : Type 1} {𝓤 : Ura M} (𝓛 : Logic 𝓤) (at_mem : Memory → SProp 𝓤) (run : Routine → Fun 𝓤) where
-  feed_in_place_promises : (κs : Lfts 2) (s : MutBor Session) (message : Bor (List ℕ)) (r : Answer)
+  feed_in_place_promises : (κs : Lfts 2) (s : MutBor Session) (message : Bor (List ℕ)) (r : Result Unit Refusal)
       (x : AtExit feed-in-place.ended κs)
       → (feed-in-place.clauses 𝓛 at_mem run κs (s, (message, tt))).ensures tt r x
       ≡ fact 𝓤 (Done s.now (Feed message.now) x.0.now (plain r))
@@ -183,7 +182,7 @@ module _ {M : Type 1} {𝓤 : Ura M} (𝓛 : Logic 𝓤) (at_mem : Memory → SP
       → (feed-in-place.clauses 𝓛 at_mem run κs (s, (message, tt))).requires tt ≡ emp 𝓤
   feed_in_place_asks κs s message = refl
 
-  update_in_place_promises : (κs : Lfts 1) (s : MutBor Session) (side : ℕ) (r : Answer) (x : AtExit update-in-place.ended κs)
+  update_in_place_promises : (κs : Lfts 1) (s : MutBor Session) (side : ℕ) (r : Result Unit Refusal) (x : AtExit update-in-place.ended κs)
       → (update-in-place.clauses 𝓛 at_mem run κs (s, (side, tt))).ensures tt r x
       ≡ fact 𝓤 (Done s.now (Update side) x.0.now (plain r))
   update_in_place_promises κs s side r x = refl

@@ -1,8 +1,9 @@
 -- The loop of `fill`: what holds at its head, and the laws of a turn, over plain lists and numbers.
-use Prim.Native.Nat.{ℕ, suc, ◌+◌, ◌-◌, ◌*◌, ◌/◌, ◌≤◌, ◌<◌, min}
+use Prim.Native.Nat.{ℕ, suc, ◌+◌, ◌-◌, ◌*◌, ◌/◌, ◌%◌, ◌≤◌, ◌<◌, min}
+use Rattle.std.proofs.lemmas.Grind.{div_ceil_times}
 use mathlib.Core.Path.{◌≡◌, refl, sym, ap, ◌∙◌}
 use mathlib.Core.List.{List, [], ◌∷◌, ◌++◌, append_assoc}
-use native.Mathlib.Nat.{suc-mul, lt_of_mul-lt-mul_right, div-eq_of_lt-le}
+use native.Mathlib.Nat.{suc-mul, mul-le-mul_right, div-eq_of_lt-le}
 use native.Mathlib.Numerals.{add-one}
 use native.Mathlib.Omega.{arith}
 use lib.ListN.{length, take, drop}
@@ -31,6 +32,25 @@ pub record Filled (s : ℕ) (k info old new t : List ℕ) (size i at : ℕ) : Ty
   pub block : t ≡ placed (T s k info i)
   pub sized : size ≡ length (T s k info i)
   pub bytes : new ≡ take at (Ts s k info i) ++ drop at old
+
+-- ---- where a block goes
+
+-- each block that is counted starts before the end of what is asked
+pub starts_within : (h asked i : ℕ) {blocks : ℕ} → 0 < h → blocks ≡ asked / h + min 1 (asked % h) → i < blocks → i * h < asked
+starts_within h asked i {blocks} some eb less =
+    let t : blocks * h < asked + h = rw eb (div_ceil_times asked h some).1 in
+    let m : (i + 1) * h ≤ blocks * h = mul-le-mul_right h (omega arith) in
+    let s : (i + 1) * h ≡ i * h + h = ap (λ (n : ℕ). n * h) (add-one i) ∙ suc-mul i h in
+    omega arith
+
+-- and what is asked ends with the last of them
+pub ends_within : (h asked : ℕ) {blocks : ℕ} → 0 < h → blocks ≡ asked / h + min 1 (asked % h) → asked ≤ blocks * h
+ends_within h asked some eb = rw eb (div_ceil_times asked h some).0
+
+pub next_place : (h asked i n : ℕ) → i * h < asked → n ≡ min h (asked - i * h) → i * h + n ≡ min ((i + 1) * h) asked
+next_place h asked i n less en =
+    let s : (i + 1) * h ≡ i * h + h = ap (λ (n : ℕ). n * h) (add-one i) ∙ suc-mul i h in
+    omega arith
 
 -- ---- a value in its place of 48 bytes
 
@@ -71,14 +91,6 @@ module _ (s asked : ℕ) (old : List ℕ) (h : ℕ) where
       }
 
   module _ (new t : List ℕ) (size i at : ℕ) (f : Filling s asked old h new t size i at) where
-    -- the next block's number is at most 255
-    pub next_small : asked ≤ 255 * hash_length s → at < asked → i < 255
-    next_small most lt =
-        let e = f.exact lt in
-        let a : i * h ≡ i * hash_length s = ap (λ (m : ℕ). i * m) f.hash in
-        let g : i * hash_length s < 255 * hash_length s = omega arith in
-        lt_of_mul-lt-mul_right (hash_length s) g
-
     pub turn : (n : ℕ) (t' new' : List ℕ) → asked ≤ length old → at < asked → n ≡ min h (asked - at) → length t' ≡ 48
         → new' ≡ after at (take n t') new → Filling s asked old h new' t' h (i + 1) (at + n)
     turn n t' new' room lt en wide' ey =

@@ -2,8 +2,8 @@
 #![tactic(auto)]
 
 pub mod expand;
+mod judges;
 pub mod label;
-mod numbers;
 
 // The longest message of HMAC and input of Extract.
 pub const MAX_MESSAGE: usize = 1048576;

@@ -1,18 +1,16 @@
--- Laws of a prepared key: what the code makes of any, and that of a key's own it is HMAC.
+-- Laws of a prepared key: what the code makes of a key's own is HMAC.
 use Prim.Native.Nat.{ℕ, ◌+◌, ◌≤◌}
 use mathlib.Core.Path.{◌≡◌, refl, ap, ◌∙◌}
 use mathlib.Core.List.{List, ◌++◌}
 use native.Mathlib.Omega.{arith}
 use lib.ListN.{length, take, length-append}
-use Rattle.buffer.specs.Buffer.{zeros, placed}
+use Rattle.buffer.specs.Buffer.{placed}
 use Rattle.buffer.proofs.Laws.{take-placed}
 use Rattle.suite.specs.Suite.{hash_length, block_length}
 use Rattle.suite.proofs.Laws.{bounded}
-use Rattle.suite_hash.specs.declared.running.Running.{Running}
 use Rattle.suite_hash.specs.Variants.{variant_of}
-use Rattle.suite_hash.specs.Running.{run, absorbed, finished, running_of}
+use Rattle.suite_hash.specs.Running.{absorbed, finished, running_of}
 use Rattle.suite_hash.specs.Hash.{hash}
-use Rattle.suite_hash.proofs.Absorbing.{absorbed-append}
 use Rattle.suite_hash.proofs.Suites.{more, digested, block_held}
 use Rattle.suite_hash.proofs.Whole.{length-hash}
 use Rattle.hmac.specs.declared.Keyed.{Keyed}
@@ -23,27 +21,6 @@ use Rattle.hmac.proofs.Pads.{length-ipad, length-opad}
 pub length-hmac : (suite : ℕ) (key text : List ℕ) → length (hmac suite key text) ≡ hash_length suite
 unfolding hmac
 length-hmac suite key text = length-hash suite _
-
--- ---- any value of a prepared key
-
-module _ (suite : ℕ) where
-  pub closed_is : (outer : List ℕ) (inner : Running) {h b : ℕ} {o : Running} {d none r : List ℕ} → h ≡ hash_length suite → b ≡ block_length suite
-      → d ≡ finished (variant_of suite) inner → none ≡ zeros 128 → o ≡ absorbed (variant_of suite) (run outer none b) (take h d)
-      → r ≡ finished (variant_of suite) o → r ≡ closed suite outer inner
-  unfolding closed
-  closed_is outer inner eh eb ed en eo er = er ∙ ap (finished (variant_of suite)) (eo ∙ rw (eh, eb, en, ed))
-
-  -- HMAC of a message in three parts
-  pub mac_of_lem : (k : Keyed) (a b c : List ℕ) {n : ℕ} {x y z : Running} {none r : List ℕ} → n ≡ block_length suite → none ≡ zeros 128
-      → x ≡ absorbed (variant_of suite) (run k.inner none n) a → y ≡ absorbed (variant_of suite) x b → z ≡ absorbed (variant_of suite) y c
-      → r ≡ closed suite k.outer z → r ≡ mac_of suite k (a ++ (b ++ c))
-  unfolding mac_of
-  mac_of_lem k a b c en eb ex ey ez er =
-      let v = variant_of suite in
-      let i = after_pad suite k.inner in
-      er ∙ ap (closed suite k.outer) (ez ∙ rw (ey, ex, en, eb, absorbed-append v i a (b ++ c), absorbed-append v (absorbed v i a) b c))
-
--- ---- a key's own
 
 pub mac_is : (suite : ℕ) (key text : List ℕ) → length text ≤ 2097152 → mac_of suite (keyed_of suite key) text ≡ placed (hmac suite key text)
 unfolding hmac keyed_of mac_of closed

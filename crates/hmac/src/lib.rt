@@ -1,15 +1,15 @@
 // HMAC (RFC 2104) under a key that is prepared once. Every function here is total: the calls above judge lengths.
 #![tactic(auto)]
 
-ghost use Rattle.std.specs.Prelude.{◌≡◌, ◌++◌, length, take};
+ghost use Rattle.std.specs.Prelude.{◌≡◌, length, take};
+ghost use Rattle.std.specs.List.{flat_map};
 ghost use Rattle.suite.specs.Suite.{block_length};
-ghost use Rattle.suite_hash.specs.Running.{run};
 ghost use Rattle.hmac.specs.Rfc2104.{key_block, xor_each};
 ghost use Rattle.hmac.specs.Keyed.{keyed_of, closed, mac_of};
 
 use suite::Suite;
 use suite_hash::blocks::{fold, initial};
-use suite_hash::running::{absorb_in_place, finish_in_place};
+use suite_hash::running::Running;
 
 // A key ready for use: the hash value after each of its pads.
 #[derive(Clone, Copy)]
@@ -18,13 +18,56 @@ pub struct Keyed {
     pub outer: [u64; 8],
 }
 
+impl Keyed {
+    pub fn prepare(suite: u16, key: &[u8]) -> Self
+        ensures { result ≡ keyed_of suite key.now }
+    {
+        let b = Suite::block_len(suite);
+        let mut pad = buffer::zeros();
+        let mut inner = initial(suite);
+        let mut outer = initial(suite);
+        put_pad(suite, key, 0x36, &mut pad);
+        fold(suite, &mut inner, &pad[..b]);
+        put_pad(suite, key, 0x5c, &mut pad);
+        fold(suite, &mut outer, &pad[..b]);
+        Keyed { inner, outer }
+    }
+
+    // The outer hash over the digest of the inner one, in 48 bytes with zeros behind it. The inner one is used up.
+    #[tactic(auto, unfolding(crate::specs::Keyed::closed))]
+    pub fn close(&self, suite: u16, h: &mut Running) -> [u8; 48]
+        ensures { result ≡ closed suite self.now.outer h.old }
+    {
+        let n = Suite::hash_len(suite);
+        let digest = h.finish(suite);
+        h.state = self.outer;
+        h.block = buffer::zeros();
+        h.count = Suite::block_len(suite) as u64;
+        h.absorb(suite, &digest[..n]);
+        h.finish(suite)
+    }
+
+    // HMAC of a message in its parts, in 48 bytes with zeros behind it. Apart from its callers, so that their frames stay small.
+    #[inline(never)]
+    #[tactic(auto, unfolding(crate::specs::Keyed::mac_of))]
+    pub fn mac(&self, suite: u16, message: &[&[u8]]) -> [u8; 48]
+        ensures { result ≡ mac_of suite self.now (flat_map (λ part. part.now) message.now) }
+    {
+        let mut h = Running {
+            state: self.inner,
+            block: buffer::zeros(),
+            count: Suite::block_len(suite) as u64,
+        };
+        h.absorb_parts(suite, message);
+        self.close(suite, &mut h)
+    }
+}
+
 fn xor_each(block: &mut [u8], c: u8)
     ensures { block.new ≡ xor_each c block.old }
 {
-    let mut i: usize = 0;
-    while i < block.len() {
-        block[i] = block[i] ^ c;
-        i += 1;
+    for b in block.iter_mut() {
+        *b ^= c;
     }
 }
 
@@ -32,61 +75,8 @@ fn xor_each(block: &mut [u8], c: u8)
 fn put_pad(suite: u16, key: &[u8], c: u8, pad: &mut [u8; 128])
     ensures { (take (block_length suite) pad.new ≡ xor_each c (key_block suite key.now)) × (length pad.new ≡ 128) }
 {
-    let b = Suite::block_len(suite);
-    let n = buffer::least(key.len(), b);
-    let none = buffer::zeros128();
-    *pad = none;
+    let n = key.len().min(Suite::block_len(suite));
+    *pad = buffer::zeros();
     buffer::put(pad, 0, &key[..n]);
     xor_each(pad, c);
-}
-
-pub fn prepare(suite: u16, key: &[u8]) -> Keyed
-    ensures { result ≡ keyed_of suite key.now }
-{
-    let b = Suite::block_len(suite);
-    let mut pad = buffer::zeros128();
-    let mut inner = initial(suite);
-    let mut outer = initial(suite);
-    put_pad(suite, key, 0x36, &mut pad);
-    fold(suite, &mut inner, &pad[..b]);
-    put_pad(suite, key, 0x5c, &mut pad);
-    fold(suite, &mut outer, &pad[..b]);
-    Keyed {
-        inner: inner,
-        outer: outer,
-    }
-}
-
-// The outer hash over the digest of the inner one. The inner one is used up.
-pub fn close(
-    suite: u16,
-    outer: [u64; 8],
-    state: &mut [u64; 8],
-    block: &mut [u8; 128],
-    count: u64,
-) -> [u8; 48]
-    ensures { result ≡ closed suite outer (run state.old block.old count) }
-{
-    let h = Suite::hash_len(suite);
-    let b = Suite::block_len(suite) as u64;
-    let digest = finish_in_place(suite, state, block, count);
-    *state = outer;
-    let none = buffer::zeros128();
-    *block = none;
-    let n = absorb_in_place(suite, state, block, b, &digest[..h]);
-    finish_in_place(suite, state, block, n)
-}
-
-// HMAC of the message a, b, c, in 48 bytes with zeros behind it.
-pub fn mac(suite: u16, k: Keyed, a: &[u8], b: &[u8], c: &[u8]) -> [u8; 48]
-    ensures { result ≡ mac_of suite k (a.now ++ (b.now ++ c.now)) }
-{
-    let n = Suite::block_len(suite) as u64;
-    let outer = k.outer;
-    let mut state = k.inner;
-    let mut block = buffer::zeros128();
-    let x = absorb_in_place(suite, &mut state, &mut block, n, a);
-    let y = absorb_in_place(suite, &mut state, &mut block, x, b);
-    let z = absorb_in_place(suite, &mut state, &mut block, y, c);
-    close(suite, outer, &mut state, &mut block, z)
 }

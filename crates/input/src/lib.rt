@@ -16,6 +16,7 @@ pub fn read_full<R: Read>(from: &mut R, buf: &mut [u8]) -> io::Result<usize>
     ensures err { IfErr result (λ _. (n : ℕ) × (n ≤ length buf.new) × Consumes (R.remaining from.old) (R.remaining from.new) (take n buf.new)) }
 {
     let mut done = 0;
+    // No `for`: each turn goes on by as many bytes as the reader gave.
     while done < buf.len() {
         let n = from.read(&mut buf[done..])?;
         if n == 0 {

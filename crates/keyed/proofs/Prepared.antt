@@ -33,36 +33,20 @@ module _ (suite : ℕ) where
       (take (hash_length suite) s)
   ready_is s eh ek = ek ∙ ap (λ (n : ℕ). keyed_of suite (take n s)) eh
 
-  -- the HkdfLabel and the first block's number, in parts
-  pub label-absorbed : (state block label context : List ℕ) (asked : ℕ) {n : ℕ} {p q s t u : Running} → n ≡ block_length suite
-      → p ≡ absorbed (variant_of suite) (run state block n) (asked / 256 % 256 ∷ asked % 256 ∷ (6 + length label % 256) % 256 ∷ tls13)
+  -- the HkdfLabel and the first block's number, absorbed in parts after a pad; the block, cut
+  pub block-cut : (k : Keyed) (label context : List ℕ) (asked : ℕ) {n : ℕ} {p q s t u : Running} {none head d r : List ℕ} → none ≡ zeros 128 → n ≡ block_length suite
+      → head ≡ asked / 256 % 256 ∷ asked % 256 ∷ (6 + length label) % 256 ∷ tls13 → p ≡ absorbed (variant_of suite) (run k.inner none n) head
       → q ≡ absorbed (variant_of suite) p label → s ≡ absorbed (variant_of suite) q (length context % 256 ∷ [])
       → t ≡ absorbed (variant_of suite) s context → u ≡ absorbed (variant_of suite) t (1 ∷ [])
-      → u ≡ absorbed (variant_of suite) (run state block (block_length suite)) (hkdf_label tls13 asked label context ++ (1 ∷ []))
-  unfolding hkdf_label
-  label-absorbed state block label context asked en ep eq es et eu =
+      → d ≡ closed suite k.outer u → r ≡ placed (take asked d) → r ≡ label_block suite k label context asked
+  unfolding label_block mac_of hkdf_label
+  block-cut k label context asked {n} {p} {q} {s} {t} {u} {none} {head} ez en eb ep eq es et eu ed er =
       let v = variant_of suite in
-      let h = run state block (block_length suite) in
-      let m : (6 + length label % 256) % 256 ≡ (6 + length label) % 256 = omega arith in
-      let head : List ℕ = asked / 256 % 256 ∷ asked % 256 ∷ (6 + length label) % 256 ∷ tls13 in
+      let h = run k.inner none n in
       let size : List ℕ = length context % 256 ∷ [] in
-      eu
-      ∙ ap (λ (z : Running). absorbed v z (1 ∷ []))
-      (et
-      ∙ ap (λ (z : Running). absorbed v z context)
-      (es
-      ∙ ap (λ (z : Running). absorbed v z size)
-      (eq ∙ ap (λ (z : Running). absorbed v z label) (ep ∙ rw (en, m)) ∙ sym (absorbed-append v h head label))
-      ∙ sym (absorbed-append v h (head ++ label) size))
-      ∙ sym (absorbed-append v h (head ++ label ++ size) context))
-      ∙ sym (absorbed-append v h (head ++ label ++ size ++ context) (1 ∷ []))
-
-  -- a block, cut
-  pub block-cut : (k : Keyed) (label context : List ℕ) (asked : ℕ) {i : Running} {t held r : List ℕ} → held ≡ zeros 128
-      → i ≡ absorbed (variant_of suite) (run k.inner held (block_length suite)) (hkdf_label tls13 asked label context ++ (1 ∷ []))
-      → t ≡ closed suite k.outer i → r ≡ placed (take asked t) → r ≡ label_block suite k label context asked
-  unfolding label_block mac_of
-  block-cut k label context asked eh ei et er = er ∙ rw (et, ei, eh)
+      let e : u ≡ absorbed v h (((head ++ label ++ size) ++ context) ++ (1 ∷ [])) =
+      rw (eu, et, es, eq, ep, absorbed-append v h ((head ++ label ++ size) ++ context) (1 ∷ []), absorbed-append v h (head ++ label ++ size) context, absorbed-append v h (head ++ label) size, absorbed-append v h head label) in
+      er ∙ rw (ed, e, ez, en, eb)
 
 -- zeros from index m on
 pub cut_is : (t u : List ℕ) (n : ℕ) {m i : ℕ} → length t ≡ 48 → length u ≡ 48 → m ≡ min n (length t) → i ≡ 48

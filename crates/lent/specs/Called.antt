@@ -1,5 +1,6 @@
 -- What an exported call on the bytes of a session does.
-use Rattle.std.specs.Prelude.{ℕ, false, List, [], ◌≡◌, length, eqb}
+use Rattle.std.specs.Prelude.{ℕ, false, cond, List, [], ◌≡◌, length, eqb, Result, Ok, Err}
+use Rattle.refusal.specs.declared.Refusal.{Refusal}
 use Rattle.book.specs.Call.{Call}
 use Rattle.book.specs.Book.{blank_at, fresh}
 use Rattle.session.specs.declared.Session.{Session}
@@ -20,6 +21,11 @@ counted n written output = record { number = n; count = written; verdict = false
 
 abbrev pub judging : ℕ → ℕ → Reply
 judging n said = record { number = n; count = 0; verdict = eqb said 1; output = [] }
+
+-- the session's bytes after a call that gave r: those of the next session, or, where it was refused, those before it
+abbrev pub stored : Result Session Refusal → List ℕ → List ℕ
+stored (Ok next) before = cond (eqb (length before) session_bytes) (encoded next) before
+stored (Err why) before = before
 
 -- The call c on the session's bytes before, which left the bytes after and gave that reply; out is the output that it was lent.
 pub record Called (before : List ℕ) (c : Call) (out after : List ℕ) (given : Reply) : Type 0 where

@@ -4,23 +4,21 @@
 ghost use Rattle.book.specs.Call.{Call};
 ghost use Rattle.session.specs.Promise.{Done, plain};
 
-use refusal::Answer;
+use refusal::Refusal;
 use session::Session;
 
 // Feed, on the session behind s.
-pub fn feed(s: &mut Session, message: &[u8]) -> Answer
+pub fn feed(s: &mut Session, message: &[u8]) -> Result<(), Refusal>
     ensures { Done s.old (Call.Feed message.now) s.new (plain result) }
 {
-    let a = feeding::feed(*s, message);
-    *s = a.session;
-    a.answer
+    *s = feeding::feed(*s, message)?;
+    Ok(())
 }
 
 // Update, on the session behind s.
-pub fn update(s: &mut Session, side: u8) -> Answer
+pub fn update(s: &mut Session, side: u8) -> Result<(), Refusal>
     ensures { Done s.old (Call.Update side) s.new (plain result) }
 {
-    let a = complete_stage::update::update(*s, side);
-    *s = a.session;
-    a.answer
+    *s = complete_stage::update::update(*s, side)?;
+    Ok(())
 }

@@ -9,7 +9,9 @@ use lib.ListN.{length, take, drop}
 use borrow.Author.Tests.{eqb-true, eqb-false, leb-true}
 use Rattle.refusal.proofs.Laws.{and-true, or-true}
 use Rattle.buffer.specs.Buffer.{fronted}
-use Rattle.refusal.specs.declared.Answer.{Answer}
+use Rattle.std.proofs.Common.{Err}
+use Rattle.refusal.specs.declared.Refusal.{Refusal}
+use Rattle.refusal.specs.Refusal.{number_of, Answer}
 use Rattle.refusal.specs.Refusal as Refusal
 use Rattle.refusal.specs.Answered.{Answered}
 use Rattle.suite.specs.Suite.{known, hash_length, max_label}
@@ -27,14 +29,14 @@ use Rattle.book.specs.Refusals.{number, Reached, length_in_force, export_held, e
 use Rattle.session.specs.Values.{verdict}
 use Rattle.session.specs.Session.{session_of}
 use Rattle.session.specs.Promise.{Done, wrote}
-use Rattle.book.proofs.AcceptedReads.{ExportTaken, export_small, export_zero}
+use Rattle.book.proofs.AcceptedReads.{ExportTaken, export_zero}
 use Rattle.book.proofs.Books.{good}
 use Rattle.session.proofs.Fields.{suite_is, point_is}
-use Rattle.session.proofs.Calls.{refused-by, accepted}
+use Rattle.session.proofs.Calls.{accepted}
 use Rattle.outputs.specs.Places.{exporter_place}
 use Rattle.outputs.proofs.Deciding.{export_is}
 use Rattle.outputs.proofs.Places.{export_value}
-use Rattle.outputs.proofs.Answers.{Refuses}
+use Rattle.outputs.proofs.Answers.{refused-with}
 
 -- an exporter secret is held only at points that have a suite
 export_point : (point ran name : ℕ) → export_held point ran name ≡ true → (1 ≤ point) × (point ≤ 4)
@@ -53,17 +55,15 @@ in_force_some : (t : Bool) (asked : ℕ) → eqb asked 0 ≡ t → 1 ≤ cond t 
 in_force_some true asked e = omega arith
 in_force_some false asked e = let h : asked ≡ 0 → ⊥ = eqb-false asked 0 e in omega arith
 
-module _ (s : Session) (name : ℕ) (l context : List ℕ) (asked : ℕ) (out : List ℕ) {n : ℕ}
-    (en : n ≡ export_number s.point s.suite s.early name (length l) (length context) asked (length out)) where
-  pub export_refused : (a : Answer) → (n ≡ 0 → ⊥) → Refuses n a → Done s (Export name l context asked out) s (wrote a out)
-  unfolding lent
-  export_refused a some d =
-      refused-by s (Export name l context asked out) n a (export_is s name l context asked out en)
-      (subst (λ (k : ℕ). k ≤ 13) (sym en) (export_small s.point s.suite s.early name (length l) (length context) asked
-      (length out))) some d
+pub export_refused : (s : Session) (name : ℕ) (l context : List ℕ) (asked : ℕ) (out : List ℕ) (e : Refusal) {a : Answer}
+    → number_of e ≡ export_number s.point s.suite s.early name (length l) (length context) asked (length out) → a ≡ Err e
+    → Done s (Export name l context asked out) s (wrote a out)
+unfolding lent
+export_refused s name l context asked out e en ea =
+    refused-with s (Export name l context asked out) e (export_is s name l context asked out en) ea
 
-module _ (s : Session) (name : ℕ) (l context : List ℕ) (asked : ℕ) (out : List ℕ) {n m : ℕ} {secret : List ℕ}
-    (en : n ≡ export_number s.point s.suite s.early name (length l) (length context) asked (length out)) (z : n ≡ 0)
+module _ (s : Session) (name : ℕ) (l context : List ℕ) (asked : ℕ) (out : List ℕ) {m : ℕ} {secret : List ℕ}
+    (en : 0 ≡ export_number s.point s.suite s.early name (length l) (length context) asked (length out))
     (em : m ≡ length_in_force asked)
     (es : secret ≡ exporter_place s name) where
   abbrev lower : ℕ
@@ -73,10 +73,10 @@ module _ (s : Session) (name : ℕ) (l context : List ℕ) (asked : ℕ) (out : 
   bytes = tls_exporter s.suite (take (hash_length s.suite) secret) (within max_label l) (within max_input context) m
 
   is : (b : Book) → Reached b → s ≡ session_of b → number b (Export name l context asked out) ≡ 0
-  is b r e = sym (export_is s name l context asked out en b r e) ∙ z
+  is b r e = sym (export_is s name l context asked out en b r e)
 
   taken : ExportTaken s.point s.suite s.early name (length l) (length context) asked (length out)
-  taken = export_zero s.point s.suite s.early name (length l) (length context) asked (length out) (sym en ∙ z)
+  taken = export_zero s.point s.suite s.early name (length l) (length context) asked (length out) (sym en)
 
   some : 1 ≤ m
   some = subst (λ (k : ℕ). 1 ≤ k) (sym em) (in_force_some (eqb asked 0) asked refl)

@@ -1,7 +1,6 @@
 -- Document 01, Check: its reply. It reports no byte written and lends no output.
 use Rattle.std.specs.Prelude.{[]}
-use Rattle.refusal.specs.declared.verdict.Verdict.{Verdict}
-use Rattle.refusal.specs.Verdict.{verdict_number, says_yes}
+use Rattle.refusal.specs.Verdict.{Verdict, verdict_number, says_yes}
 use Rattle.session.specs.Promise.{Reply}
 
 abbrev pub judged : Verdict → Reply

@@ -1,21 +1,23 @@
 // Export: bytes for other uses (RFC 8446, section 7.5).
-ghost use Rattle.std.specs.Prelude.{◌≡◌, cond, eqb};
+ghost use Rattle.std.specs.Prelude.{◌≡◌};
 ghost use Rattle.book.specs.Call.{Call};
 ghost use Rattle.session.specs.Promise.{Done, wrote};
+ghost use Rattle.outputs.specs.Places.{exporter_place};
 
-use super::numbers::{export_number, length_in_force};
+use super::numbers::{judge_export, length_in_force};
 use exporter::tls_exporter;
 use refusal::Answer;
 use session::Session;
 
-// Each place is passed alone, so that the whole session is not copied.
-fn exporter_place(name: u8, early: [u8; 48], regular: [u8; 48]) -> [u8; 48]
-    ensures { result ≡ cond (eqb name 1) early regular }
+// The exporter secret of a name.
+#[inline(always)]
+fn exporter_place(s: &Session, name: u8) -> [u8; 48]
+    ensures { result ≡ exporter_place s.now name }
 {
-    if name == 1 {
-        return early;
+    match name {
+        1 => s.early_exporter,
+        _ => s.exporter,
     }
-    regular
 }
 
 // Names: 1 early, 2 regular. Refusals 1, 2, 3, 10 and 11.
@@ -29,23 +31,8 @@ pub fn export(
 ) -> Answer
     ensures { Done s (Call.Export name label.now context.now asked out.old) s (wrote result out.new) }
 {
-    let number = export_number(
-        s.point,
-        s.suite,
-        s.early,
-        name,
-        label.len(),
-        context.len(),
-        asked,
-        out.len(),
-    );
-    if number != 0 {
-        return Answer::decided(number, 0);
-    }
-    let suite = s.suite;
+    judge_export(&s, name, label.len(), context.len(), asked, out.len())?;
     let n = length_in_force(asked);
-    let early = s.early_exporter;
-    let regular = s.exporter;
-    let secret = exporter_place(name, early, regular);
-    tls_exporter(suite, secret, label, context, n, out)
+    let secret = exporter_place(&s, name);
+    tls_exporter(s.suite, secret, label, context, n, out)
 }

@@ -1,10 +1,12 @@
-// The decisions of Keys and Export, by plain numbers: each reads as its definition does (book/specs/Refusals).
+// The decisions of Keys and Export: each reads as its definition does (book/specs/Refusals).
 ghost use Rattle.std.specs.Prelude.{◌≡◌};
+ghost use Rattle.refusal.specs.Refusal.{number};
 ghost use Rattle.book.specs.Held.{early_held, handshake_held, application_held};
 ghost use Rattle.book.specs.Refusals.{keys_held, export_held, length_in_force, export_range, keys_number, export_number};
 
 use book::points::{APPLICATION, CLOSED, COMPLETE, EARLY, FRESH, HANDSHAKE};
-use refusal::refuse_if;
+use refusal::{Refusal, refuse_if};
+use session::Session;
 use suite::{MAX_LABEL, Suite};
 
 const MAX_CONTEXT: usize = 65535;
@@ -39,15 +41,21 @@ fn is_held(point: u16, ran: u8, name: u8) -> bool
         | ((((name == 2) | (name == 3)) & handshake) | (((name == 4) | (name == 5)) & application))
 }
 
-pub(crate) fn keys_number(point: u16, suite: u16, ran: u8, name: u8, room: usize) -> u8
-    ensures { result ≡ keys_number point suite ran name room }
+#[inline(always)]
+#[tactic(auto, unfolding(book::specs::Refusals::keys_number))]
+pub(crate) fn judge_keys(s: &Session, name: u8, room: usize) -> Result<(), Refusal>
+    ensures { number result ≡ keys_number s.now.point s.now.suite s.now.early name room }
 {
-    let off = (point == FRESH) | (point == CLOSED);
-    let known = (1 <= name) & (name <= 5);
-    let held = is_held(point, ran, name);
-    let size = Suite::key_len(suite) + Suite::iv_len(suite);
-    let last = refuse_if(!held, 3, refuse_if(room < size, 11, 0));
-    refuse_if(off, 1, refuse_if(!known, 2, last))
+    refuse_if(
+        (s.point == FRESH) | (s.point == CLOSED),
+        Refusal::NotAllowedHere,
+    )?;
+    refuse_if(!((1 <= name) & (name <= 5)), Refusal::Unknown)?;
+    refuse_if(!is_held(s.point, s.early, name), Refusal::NotHeld)?;
+    refuse_if(
+        room < Suite::key_len(s.suite) + Suite::iv_len(s.suite),
+        Refusal::OutputTooShort,
+    )
 }
 
 // Length 0 asks for 32 bytes.
@@ -74,23 +82,27 @@ fn is_exporter_held(point: u16, ran: u8, name: u8) -> bool
     ((name == 1) & early) | ((name == 2) & application)
 }
 
-pub(crate) fn export_number(
-    point: u16,
-    suite: u16,
-    ran: u8,
+#[inline(always)]
+#[tactic(auto, unfolding(book::specs::Refusals::export_number))]
+pub(crate) fn judge_export(
+    s: &Session,
     name: u8,
     label: usize,
     context: usize,
     asked: usize,
     room: usize,
-) -> u8
-    ensures { result ≡ export_number point suite ran name label context asked room }
+) -> Result<(), Refusal>
+    ensures { number result ≡ export_number s.now.point s.now.suite s.now.early name label context asked room }
 {
-    let off = (point == FRESH) | (point == CLOSED);
-    let known = (name == 1) | (name == 2);
-    let held = is_exporter_held(point, ran, name);
-    let ranged = is_exportable(suite, label, context, asked);
-    let short = room < length_in_force(asked);
-    let last = refuse_if(!ranged, 10, refuse_if(short, 11, 0));
-    refuse_if(off, 1, refuse_if(!known, 2, refuse_if(!held, 3, last)))
+    refuse_if(
+        (s.point == FRESH) | (s.point == CLOSED),
+        Refusal::NotAllowedHere,
+    )?;
+    refuse_if(!((name == 1) | (name == 2)), Refusal::Unknown)?;
+    refuse_if(!is_exporter_held(s.point, s.early, name), Refusal::NotHeld)?;
+    refuse_if(
+        !is_exportable(s.suite, label, context, asked),
+        Refusal::OutOfRange,
+    )?;
+    refuse_if(room < length_in_force(asked), Refusal::OutputTooShort)
 }

@@ -11,7 +11,10 @@ use Rattle.refusal.proofs.Laws.{and-true}
 use Rattle.frames.specs.Frames.{number_at}
 use Rattle.session.specs.declared.Session.{Session}
 use Rattle.book.specs.Call.{Call}
-use Rattle.session.specs.Promise.{Reply, Done}
+use Rattle.session.specs.Promise.{Reply, Done, after}
+use Rattle.std.specs.Result.{result_unwrap_or}
+use Rattle.std.proofs.Common.{Result, Ok, Err}
+use Rattle.refusal.specs.declared.Refusal.{Refusal}
 use Rattle.perform.specs.declared.encoded.Header.{Header}
 use Rattle.history.specs.Histories.{Event, Run, calls, fresh_session}
 use Rattle.history.specs.Histories.Run.{ends, goes}
@@ -232,3 +235,9 @@ finished list old s at used lent g e =
 -- a call by its kind
 pub called : {s after : Session} {given : Reply} {c d : Call} → Done s c after given → d ≡ c → (g : Reply) × Done s d after g
 called {s} {after} {given} x e = (given, subst (λ (c : Call). Done s c after given) (sym e) x)
+
+-- and of one that may change the session, after which the session goes on
+pub went : {s t : Session} {given : Reply} {c d : Call} (r : Result Session Refusal) → Done s c (after s r) given
+    → t ≡ result_unwrap_or r s → d ≡ c → (g : Reply) × Done s d t g
+went {s} {given = given} {c} (Ok next) x et e = called (subst (λ (z : Session). Done s c z given) (sym et) x) e
+went {s} {given = given} {c} (Err why) x et e = called (subst (λ (z : Session). Done s c z given) (sym et) x) e

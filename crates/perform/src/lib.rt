@@ -24,40 +24,40 @@ use outputs::keys::keys;
 use session::close::close;
 use session::{Session, fresh};
 
-// Makes the call of a header.
+// Makes the call of a header, whose kind is the number of `call_of`, with Close for every other: a list is any bytes.
 fn perform_one(s: Session, h: Header, first: &[u8], second: &[u8], out: &mut [u8]) -> Session
     ensures { (given : Reply) × Done s (call_of h.kind h.small h.wide h.asked first.now second.now out.old) result given }
 {
     let kind = h.kind;
     match kind {
-        1 => begin(s, h.wide, h.small, first).session,
-        2 => feed(s, first).session,
-        3 => early(s).session,
-        4 => handshake(s, h.wide, first).session,
-        5 => application(s).session,
-        6 => complete(s).session,
-        7 => update(s, h.small).session,
+        1 => begin(s, h.wide, h.small, first).unwrap_or(s),
+        2 => feed(s, first).unwrap_or(s),
+        3 => early(s).unwrap_or(s),
+        4 => handshake(s, h.wide, first).unwrap_or(s),
+        5 => application(s).unwrap_or(s),
+        6 => complete(s).unwrap_or(s),
+        7 => update(s, h.small).unwrap_or(s),
         9 => {
-            keys(s, h.small, out);
+            let _ = keys(s, h.small, out);
             s
         }
         10 => {
-            finished(s, h.small, out);
+            let _ = finished(s, h.small, out);
             s
         }
         11 => {
-            check(s, h.small, first);
+            let _ = check(s, h.small, first);
             s
         }
         12 => {
-            binder(s, first, out);
+            let _ = binder(s, first, out);
             s
         }
         13 => {
-            export(s, h.small, first, second, h.asked, out);
+            let _ = export(s, h.small, first, second, h.asked, out);
             s
         }
-        _ => close(s).session,
+        _ => close(s),
     }
 }
 
@@ -68,6 +68,7 @@ pub fn perform(list: &[u8], lent: &mut [u8]) -> Session
     let mut s = fresh();
     let mut at: usize = 0;
     let mut used: usize = 0;
+    // a `while`, since each step is as long as its record says (decoded_from)
     while at < list.len() {
         let h = read_header(list, at);
         if !is_whole(h, list.len(), lent.len(), at, used) {

@@ -10,7 +10,7 @@ use lib.Dec.{eqb}
 use borrow.Author.Tests.{eq-eqb, ne_eqb}
 use Rattle.buffer.specs.Buffer.{zeros, placed}
 use Rattle.buffer.proofs.Laws.{length-zeros, take-zeros, take-placed, take_least}
-use Rattle.refusal.specs.declared.Answer.{Answer}
+use Rattle.refusal.specs.Refusal.{Answer}
 use Rattle.refusal.specs.Answered.{Answered}
 use Rattle.suite.specs.declared.Suite.{Suite}
 use Rattle.suite.specs.Suite.{suite_of, hash_length, key_length, iv_length, max_label}
@@ -89,15 +89,15 @@ module _ (suite : ℕ) where
       er ∙ b ∙ ap placed (derive_by_hash suite secret name [])
 
   -- and over messages, given their hash
-  pub secret_is : (x : Secret) (secret t : List ℕ) {k : Keyed} {r : List ℕ} → k ≡ keyed_of suite secret
-      → r ≡ label_block suite k (label x) (take (hash_length suite) t) (hash_length suite) → r ≡ placed
-      (from_hash suite x secret (take (hash_length suite) t))
+  pub secret_is : (x : Secret) (secret t : List ℕ) {h : ℕ} {k : Keyed} {r : List ℕ} → h ≡ hash_length suite → k ≡ keyed_of suite secret
+      → r ≡ label_block suite k (label x) (take h t) (hash_length suite)
+      → r ≡ placed (from_hash suite x secret (take (hash_length suite) t))
   unfolding from_hash
-  secret_is x secret t ek er =
+  secret_is x secret t {k = k} eh ek er =
       let w = (bounded suite).hash in
       let m = take (hash_length suite) t in
       let l : length m ≤ 255 = simp length-take (omega arith) in
-      er
+      over_hash k (label x) t eh er
       ∙ ap (λ (j : Keyed). label_block suite j (label x) m (hash_length suite)) ek
       ∙ label_block_is suite secret (label x) m (hash_length suite) (some_hash suite) (omega arith) (label_short x) l
 

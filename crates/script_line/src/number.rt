@@ -2,75 +2,37 @@
 ghost use Rattle.std.specs.Prelude.{◌≡◌, length};
 ghost use Rattle.script_line.specs.Fields.{hex_number, small_number, read_body, body_of, kept};
 
-use super::word::same;
-use hex_text::{HexRead, get_hex, hex_value};
-use text::decimal::{DecimalRead, get_decimal};
+use hex_text::{BadDigit, get_hex, hex_value};
+use text::decimal::get_decimal;
 
-// A suite or group.
-#[derive(Clone, Copy)]
-pub(crate) enum Wide {
-    Number(u16),
-    Bad,
-}
-
-// A PSK kind or side.
-#[derive(Clone, Copy)]
-pub(crate) enum Small {
-    Number(u8),
-    Bad,
-}
-
-fn wide16(d: u8) -> u16
-    ensures { result ≡ d }
-{
-    d as u16
-}
-
-// Reads all of s as a number of 1 to 4 hex digits.
-pub(crate) fn hex_number(s: &[u8]) -> Wide
+// Reads all of s as a number of 1 to 4 hex digits: a suite or group.
+pub(crate) fn hex_number(s: &[u8]) -> Option<u16>
     ensures { result ≡ hex_number s.now }
 {
-    if s.len() == 0 {
-        return Wide::Bad;
-    }
-    if 4 < s.len() {
-        return Wide::Bad;
+    if s.is_empty() || 4 < s.len() {
+        return None;
     }
     let mut n: u16 = 0;
-    let mut i = 0;
-    while i < s.len() {
-        let d = hex_value(s[i]);
-        if d == 16 {
-            return Wide::Bad;
-        }
-        n = n * 16 + wide16(d);
-        i += 1;
+    for c in s {
+        n = n * 16 + u16::from(hex_value(*c)?);
     }
-    Wide::Number(n)
+    Some(n)
 }
 
-// Reads all of s as a decimal number of at most 255.
-pub(crate) fn small_number(s: &[u8]) -> Small
+// Reads all of s as a decimal number of at most 255: a PSK kind or side.
+#[tactic(auto, unfolding(crate::specs::Fields::small_number))]
+pub(crate) fn small_number(s: &[u8]) -> Option<u8>
     ensures { result ≡ small_number s.now }
 {
-    let read = get_decimal(s);
-    match read {
-        DecimalRead::Value(n) => {
-            if 255 < n {
-                return Small::Bad;
-            }
-            Small::Number(n as u8)
-        }
-        DecimalRead::Bad => Small::Bad,
-    }
+    u8::try_from(get_decimal(s)?).ok()
 }
 
 // Reads all of s as bytes, into the front of out: two hex digits a byte, or - for none.
-pub(crate) fn get_body(s: &[u8], out: &mut [u8]) -> HexRead
+pub(crate) fn get_body(s: &[u8], out: &mut [u8]) -> Result<usize, BadDigit>
     ensures { (result ≡ read_body s.now (length out.old)) × (out.new ≡ kept result (body_of s.now) out.old) }
 {
-    if same(s, b"-") {
-        return HexRead::Bytes(0);
+    if s == b"-".as_slice() {
+        return Ok(0);
     }
     get_hex(s, out)
 }

@@ -3,22 +3,24 @@ use Prim.Native.Nat.{ℕ, ◌≤◌, min, zero-le}
 use mathlib.Core.Bool.{Bool, false, cond}
 use mathlib.Core.List.{List, []}
 use mathlib.Core.Path.{◌≡◌, refl, sym, ap, ◌∙◌, subst}
-use native.Mathlib.Nat.{le_antisymm}
 use native.Mathlib.Omega.{arith}
 use lib.Dec.{eqb}
 use lib.ListN.{length, drop, length-append, length-drop}
 use lib.Seq.{drop-append_seam}
 use borrow.Author.Tests.{eq-eqb, ne_eqb}
 use Rattle.buffer.specs.Buffer.{fronted}
-use Rattle.refusal.specs.declared.Answer.{Answer}
+use Rattle.std.proofs.Common.{Result, Ok, Err}
+use Rattle.refusal.specs.declared.Refusal.{Refusal}
+use Rattle.refusal.specs.Refusal.{Answer, number_of}
 use Rattle.refusal.specs.Refusal as Refusal
+use Rattle.refusal.proofs.Laws.{number_of-some}
 use Rattle.session.specs.declared.Session.{Session}
 use Rattle.book.specs.Call.{Call, lent}
 use Rattle.book.specs.Book.{Book, note}
 use Rattle.book.specs.Refusals.{number, Reached}
 use Rattle.session.specs.Values.{written, verdict}
 use Rattle.session.specs.Session.{session_of}
-use Rattle.session.specs.Promise.{Reply, reply, Done, plain}
+use Rattle.session.specs.Promise.{Reply, reply, Done, after, plain}
 use Rattle.book.proofs.Accepted.{next-refused, next-accepted}
 
 -- the reply of the book, when it refuses and when it accepts
@@ -52,21 +54,6 @@ refused s c n k is some none =
       session = λ b reached e. e ∙ ap session_of (sym (next-refused b c (λ z. some (is b reached e ∙ z))));
       answer = λ b reached e. refused-reply b c n k (is b reached e) none some;
     }
-
--- what the answer enum reports of a decision
-pub decided_refused : (n : ℕ) (a : Answer) → n ≤ 13 → (n ≡ 0 → ⊥) → (Refusal.number a ≡ min n 13) ×
-    (Refusal.count a ≡ cond (eqb n 0) 0 0)
-    → (Refusal.number a ≡ n) × (Refusal.count a ≡ 0)
-decided_refused n a small some e = (e.0 ∙ omega arith, e.1 ∙ ap (λ (t : Bool). cond t 0 0) (ne_eqb n 0 some))
-
--- the same, by the code's answer
-pub refused-by : (s : Session) (c : Call) (n : ℕ) (a : Answer) → ((b : Book) → Reached b → s ≡ session_of b → n ≡ number b c) → n
-    ≤ 13 → (n ≡ 0 → ⊥)
-    → (Refusal.number a ≡ min n 13) × (Refusal.count a ≡ cond (eqb n 0) 0 0)
-    → Done s c s (record { number = Refusal.number a; count = Refusal.count a; verdict = false; output = lent c })
-refused-by s c n a is small some e =
-    let d = decided_refused n a small some e in
-    refused s c (Refusal.number a) (Refusal.count a) (λ b r p. d.0 ∙ is b r p) (λ z. some (sym d.0 ∙ z)) d.1
 
 -- bytes at the front of a lent output change nothing behind them
 front_size : (K old new : List ℕ) (n : ℕ) → n ≡ length K → n ≤ length old → new ≡ fronted K old → length new ≡ length old
@@ -111,36 +98,28 @@ accepted s c after K n k v output is to values en ek eo fits =
           w.1 eo;
     }
 
--- a call that writes nothing, by the code's answer
-pub accepted-plain : (s : Session) (c : Call) (after : Session) (a : Answer) → lent c ≡ [] → ((b : Book) → written b c ≡ [])
+-- a call that writes nothing and is accepted
+pub accepted-silent : (s : Session) (c : Call) (next : Session) → lent c ≡ [] → ((b : Book) → written b c ≡ [])
     → ((b : Book) → verdict b c ≡ false) → ((b : Book) → Reached b → s ≡ session_of b → number b c ≡ 0)
-    → ((b : Book) → Reached b → s ≡ session_of b → number b c ≡ 0 → after ≡ session_of (note b c))
-    → (Refusal.number a ≡ min 0 13) × (Refusal.count a ≡ cond (eqb 0 0) 0 0) → Done s c after (plain a)
+    → ((b : Book) → Reached b → s ≡ session_of b → number b c ≡ 0 → next ≡ session_of (note b c))
+    → Done s c next (record { number = 0; count = 0; verdict = false; output = [] })
 unfolding fronted
-accepted-plain s c after a none wrote says is to e =
-    accepted s c after [] (Refusal.number a) (Refusal.count a) false [] is to (λ b r p z. (sym (wrote b), sym (says b))) e.0
-    e.1
-    (ap (λ (l : List ℕ). drop 0 l) (sym none)) (subst (λ (j : ℕ). j ≤ length (lent c)) (sym e.1) zero-le)
+accepted-silent s c next none wrote says is to =
+    accepted s c next [] 0 0 false [] is to (λ b r p z. (sym (wrote b), sym (says b))) refl refl
+    (ap (λ (l : List ℕ). drop 0 l) (sym none)) zero-le
 
--- a call that writes nothing and has one end, by the code's number: after is the session there, on each of the two ways
-module _ (s : Session) (c : Call) {n : ℕ} (a : Answer) (none : lent c ≡ [])
-    (is : (b : Book) → Reached b → s ≡ session_of b → n ≡ number b c)
-    (e : (Refusal.number a ≡ min n 13) × (Refusal.count a ≡ cond (eqb n 0) 0 0)) {after : Session} where
-  pub end_refused : n ≤ 13 → (n ≡ 0 → ⊥) → after ≡ s → Done s c after (plain a)
-  end_refused small some same =
-      subst (λ (x : Session). Done s c x (plain a)) (sym same)
-      (subst
-      (λ (l : List ℕ). Done s c s
-      (record { number = Refusal.number a; count = Refusal.count a; verdict = false; output = l }))
-      none (refused-by s c n a is small some e))
+-- a call that writes nothing, by its decision n: refused, or accepted with the session next after it
+module _ (s : Session) (c : Call) {n : ℕ} {r : Result Session Refusal} (none : lent c ≡ [])
+    (is : (b : Book) → Reached b → s ≡ session_of b → n ≡ number b c) where
+  pub refused-plain : (e : Refusal) → number_of e ≡ n → r ≡ Err e → Done s c (after s r) (plain r)
+  refused-plain e en er =
+      subst (λ (x : Result Session Refusal). Done s c (after s x) (plain x)) (sym er)
+      (subst (λ (l : List ℕ). Done s c s (record { number = number_of e; count = 0; verdict = false; output = l })) none
+      (refused s c (number_of e) 0 (λ b h p. en ∙ is b h p) (number_of-some e) refl))
 
-  pub end_accepted : {made : Session} → ((b : Book) → written b c ≡ []) → ((b : Book) → verdict b c ≡ false) → n ≡ 0
-      → after ≡ made → ((b : Book) → Reached b → s ≡ session_of b → number b c ≡ 0 → made ≡ session_of (note b c))
-      → Done s c after (plain a)
-  end_accepted wrote says z same to =
-      accepted-plain s c after a none wrote says (λ b r p. sym (is b r p) ∙ z) (λ b r p y. same ∙ to b r p y)
-      (subst (λ (k : ℕ). (Refusal.number a ≡ min k 13) × (Refusal.count a ≡ cond (eqb k 0) 0 0)) z e)
-
--- a call that lends no output reports no bytes, on any session
-pub no_count : {s after : Session} {c : Call} {g : Reply} → lent c ≡ [] → Done s c after g → g.count ≡ 0
-no_count {g = g} e d = le_antisymm (subst (λ (l : List ℕ). g.count ≤ length l) e d.fits) zero-le
+  pub accepted-plain : {next : Session} → ((b : Book) → written b c ≡ []) → ((b : Book) → verdict b c ≡ false) → 0 ≡ n
+      → r ≡ Ok next → ((b : Book) → Reached b → s ≡ session_of b → number b c ≡ 0 → next ≡ session_of (note b c))
+      → Done s c (after s r) (plain r)
+  accepted-plain {next} wrote says z er to =
+      subst (λ (x : Result Session Refusal). Done s c (after s x) (plain x)) (sym er)
+      (accepted-silent s c next none wrote says (λ b h p. sym (is b h p) ∙ sym z) to)

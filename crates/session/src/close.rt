@@ -1,19 +1,16 @@
 // Close.
+ghost use Rattle.std.specs.Prelude.{[], Ok};
 ghost use Rattle.book.specs.Call.{Call};
-ghost use Rattle.session.specs.Promise.{Done, plain};
+ghost use Rattle.session.specs.Promise.{Done, wrote};
 
-use super::{Outcome, Session, fresh};
+use super::{Session, fresh};
 use book::points::CLOSED;
-use refusal::Answer;
 
 // Always accepted: everything becomes zero, the point Closed.
-pub fn close(s: Session) -> Outcome
-    ensures { Done s Call.Close result.session (plain result.answer) }
+pub fn close(s: Session) -> Session
+    ensures { Done s Call.Close result (wrote (Ok 0) []) }
 {
     let mut next = fresh();
     next.point = CLOSED;
-    Outcome {
-        session: next,
-        answer: Answer::decided(0, 0),
-    }
+    next
 }

@@ -8,12 +8,13 @@ ghost use Rattle.book.specs.Book.{blank_at, fresh};
 ghost use Rattle.session.specs.Session.{blank_running, session_of};
 
 use book::points::{FRESH, NO_MESSAGE};
-use refusal::Answer;
 use suite_hash::running::Running;
 
 // Numbers and arrays only, so that every bit pattern is a session; and no padding, so that two sessions with equal fields are
 // equal in every byte. Each secret lies in 48 bytes with zeros behind it. kind is the PSK's, early is 1 once Early was
-// accepted, stage is how far the messages have come (book::points), transcript the running hash of the messages fed.
+// accepted, stage is how far the messages have come (book::points), transcript the running hash of the messages fed. The
+// five that name something are numbers and no enums, since C lends any bytes as a session: `encoding`'s decoded gives each
+// of their values, and the calls answer each (Done, "of every session record").
 #[derive(Clone, Copy)]
 pub struct Session {
     pub suite: u16,
@@ -36,13 +37,7 @@ pub struct Session {
     pub resumption: [u8; 48],
 }
 
-// What a call that may change the session gives back: the session after it, and its answer.
-#[derive(Clone, Copy)]
-pub struct Outcome {
-    pub session: Session,
-    pub answer: Answer,
-}
-
+#[tactic(auto, unfolding(buffer::specs::Buffer::zeros))]
 fn blank() -> Running
     ensures { result ≡ blank_running }
 {
@@ -54,11 +49,12 @@ fn blank() -> Running
 }
 
 // A fresh session.
+#[tactic(auto, unfolding(crate::specs::Session::session_of, book::specs::Messages::stage_from))]
 pub fn fresh() -> Session
     ensures { result ≡ session_of (blank_at fresh) }
 {
     let h = blank();
-    let z = buffer::zeros48();
+    let z = buffer::zeros();
     Session {
         suite: 0,
         kind: 0,

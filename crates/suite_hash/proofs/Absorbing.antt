@@ -1,7 +1,10 @@
 -- Laws of absorbing, once for every variant: in parts, within a block, and whole blocks straight from the input.
-use Rattle.std.proofs.Common.{◌≡◌, ℕ, zero, suc, ◌+◌, ◌-◌, ◌*◌, ◌/◌, ◌%◌, ◌^◌, ◌<◌, ◌≤◌, List, [], ◌∷◌, ◌++◌, length, get_or, take, drop, set, sym, refl, ap, ◌∙◌, append_assoc, add-zero, mod-lt, suc-mul, add-mul, one-mul, div-add-mod', zero-mul, add-one, arith, length-append, length-drop, length-set, take-append-drop, length-take-le, drop-cons, take-suc, take-suc-set, take_at, drop-set-lt, take-add, eq-eqb, ne_eqb}
+use Rattle.std.proofs.Common.{◌≡◌, ℕ, zero, suc, ◌+◌, ◌-◌, ◌*◌, ◌/◌, ◌%◌, ◌^◌, ◌<◌, ◌≤◌, List, [], ◌∷◌, ◌++◌, length, get_or, take, drop, set, sym, refl, ap, ◌∙◌, append_assoc, append-nil, add-zero, mod-lt, suc-mul, add-mul, one-mul, div-add-mod', zero-mul, add-one, arith, length-append, length-drop, length-set, take-append-drop, length-take-le, drop-cons, take-suc, take-suc-set, take_at, drop-set-lt, take-add, eq-eqb, ne_eqb}
 use lib.Arith.{digits_mod, mod-mul}
 use lib.Seq.{append_snoc, set_at, take-length}
+use Rattle.std.specs.List.{flat_map}
+use Rattle.std.proofs.lemmas.List.{take_more}
+use Rattle.std.proofs.lemmas.List.Concat.{flat_map-append}
 use Rattle.buffer.specs.Buffer.{zeros, overwrite}
 use Rattle.buffer.proofs.Laws.{length-zeros}
 use Rattle.fips180.specs.Variant.{Variant}
@@ -18,6 +21,13 @@ module _ (v : Variant) where
   unfolding absorbed
   absorbed-append r [] y = refl
   absorbed-append r (b ∷ x) y = absorbed-append (step v r b) x y
+
+  -- a message in parts, after one part more
+  pub parts-next : {X : Type 0} (f : X → List ℕ) (h : Running) (xs : List X) (i : ℕ) (d : X) {r next : Running} → i < length xs
+      → r ≡ absorbed v h (flat_map f (take i xs)) → next ≡ absorbed v r (f (get_or xs i d)) → next ≡ absorbed v h (flat_map f (take (i + 1) xs))
+  parts-next f h xs i d less er en =
+      let t = take_more xs i d less in
+      en ∙ rw (t, flat_map-append, append-nil, er) (sym (absorbed-append h (flat_map f (take i xs)) (f (get_or xs i d))))
 
   pub step_full : (r : Running) (b : ℕ) → r.count % v.block + 1 ≡ v.block
       → step v r b ≡ run (compress v (cut v r.state) (words_of v 16 (take v.block (set r.block (r.count % v.block) b)))) (zeros 128) ((r.count + 1) % 2 ^ 64)

@@ -1,5 +1,5 @@
 -- What the laws of the running hash ask of a variant, and that both variants have it.
-use Rattle.std.proofs.Common.{◌≡◌, ℕ, ◌+◌, ◌*◌, ◌/◌, ◌%◌, ◌^◌, ◌<◌, ◌≤◌, sym, refl, ap, ◌∙◌, arith}
+use Rattle.std.proofs.Common.{◌≡◌, ℕ, ◌+◌, ◌*◌, ◌/◌, ◌%◌, ◌^◌, ◌<◌, ◌≤◌, sym, refl, ap, ◌∙◌, mod-lt, arith}
 use Rattle.suite.specs.declared.Hash.{Hash}
 use Rattle.suite.specs.declared.Hash.TheVariants.{Sha256, Sha384}
 use Rattle.suite.specs.declared.Suite.{Suite}
@@ -76,11 +76,6 @@ pub sound : (suite : ℕ) → Sound (variant_of suite)
 unfolding variant_of
 sound suite = sound_for (hash_of suite)
 
--- the variant of a suite whose hash is known
-pub is_variant : (suite : ℕ) {x : Hash} (h : Hash) → x ≡ hash_of suite → x ≡ h → variant_of suite ≡ variant_for h
-unfolding variant_of
-is_variant suite h e f = ap variant_for (sym e ∙ f)
-
 -- the table's lengths are the variant's
 record Fitting (s : Suite) : Type 0 where
   pub digest : s.hash_len ≡ (variant_for s.hash).digest
@@ -99,3 +94,12 @@ block_len suite = (fitting suite).block
 pub hash_len : (suite : ℕ) → hash_length suite ≡ (variant_of suite).digest
 unfolding variant_of
 hash_len suite = (fitting suite).digest
+
+-- the place of a byte is within a block, and a block has room for a length
+pub place_within : (suite count : ℕ) → count % (variant_of suite).block < block_length suite
+place_within suite count = rw (block_len suite) (mod-lt count (positive _ (sound suite)))
+
+pub block_some : (suite : ℕ) → 8 < block_length suite
+block_some suite = rw (block_len suite) (sound suite).some
+
+pub ruleset places = (place_within, block_some)

@@ -9,8 +9,11 @@ use Rattle.suite_hash.specs.Variants.{variant_of}
 use Rattle.suite_hash.specs.Running.{run, start, absorbed, finished, running_of}
 use Rattle.suite_hash.specs.Hash.{hash}
 use Rattle.suite_hash.proofs.Sound.{sound, block_len, positive}
-use Rattle.suite_hash.proofs.Absorbing.{blocks-absorbed}
+use Rattle.suite_hash.proofs.Absorbing.{absorbed-append, blocks-absorbed}
 use Rattle.suite_hash.proofs.Message.{running_start, running_after, running_absorbed, running_finished}
+
+-- absorbing part after part
+pub ruleset parts = (absorbed-append)
 
 pub started : (suite : ℕ) {r : Running} → r ≡ start (variant_of suite) → r ≡ running_of (variant_of suite) []
 started suite e = e ∙ running_start (variant_of suite) (sound suite)

@@ -1,16 +1,14 @@
 -- The call that hashes a whole input: refused and accepted.
-use Rattle.std.proofs.Common.{◌≡◌, ℕ, ◌^◌, ◌<◌, ◌≤◌, min, cond, not, eqb, ltb, List, length, take, sym, ap, ◌∙◌, subst, arith, length-take, take_all, ltb-false}
-use Rattle.buffer.specs.Buffer.{zeros, placed, after}
+use Rattle.std.proofs.Common.{◌≡◌, ℕ, ◌^◌, ◌<◌, ◌≤◌, min, not, ltb, List, length, take, sym, refl, Ok, ap, ◌∙◌, arith, length-take, take_all, ltb-false}
+use Rattle.buffer.specs.Buffer.{placed, after}
 use Rattle.buffer.proofs.Laws.{after_front, take-placed, take_least}
-use Rattle.refusal.specs.declared.Answer.{Answer}
-use Rattle.refusal.specs.Refusal.{number, count}
 use Rattle.refusal.specs.Answered.{Answered}
-use Rattle.refusal.proofs.Laws.{passed, at_most, refused, done}
+use Rattle.refusal.proofs.Laws.{passed, answered-ok}
 use Rattle.suite.specs.Suite.{known, hash_length}
 use Rattle.fips180.proofs.Lengths.{length-sha2}
 use Rattle.suite_hash.specs.declared.running.Running.{Running}
 use Rattle.suite_hash.specs.Variants.{variant_of}
-use Rattle.suite_hash.specs.Running.{run, start, absorbed, finished}
+use Rattle.suite_hash.specs.Running.{start, absorbed, finished}
 use Rattle.suite_hash.specs.Hash.{hash, hash_number, max_input}
 use Rattle.suite_hash.proofs.Sound.{sound, hash_len}
 use Rattle.suite_hash.proofs.Message.{running_after, running_finished}
@@ -28,33 +26,18 @@ digest_is suite m small es ea ed =
     let e = running_after v (sound suite) m (omega arith) in
     ed ∙ ap (finished v) (ea ∙ ap (λ (r : Running). absorbed v r m) es ∙ e) ∙ running_finished v (sound suite) m small
 
--- the same, of an input that is cut at the limit, in the parts of the running hash
-pub cut_digest_is : (suite : ℕ) (m : List ℕ) {n : ℕ} {s none : List ℕ} {a : Running} {d : List ℕ} → n ≡ min max_input (length m)
-    → s ≡ (variant_of suite).H0 → none ≡ zeros 128 → a ≡ absorbed (variant_of suite) (run s none 0) (take n m) → d ≡ finished (variant_of suite) a
+-- the same, of an input that is cut at the limit
+pub cut_digest_is : (suite : ℕ) (m : List ℕ) {n : ℕ} {s a : Running} {d : List ℕ} → n ≡ min max_input (length m)
+    → s ≡ start (variant_of suite) → a ≡ absorbed (variant_of suite) s (take n m) → d ≡ finished (variant_of suite) a
     → d ≡ placed (hash suite (take max_input m))
-unfolding start
-cut_digest_is suite m {n} {s} {none} en es ez ea ed =
+cut_digest_is suite m {n} en es ea ed =
     let t : take n m ≡ take max_input m = ap (λ (k : ℕ). take k m) en ∙ take_least max_input m in
     let l : length (take max_input m) < 2 ^ 61 = simp length-take (omega arith) in
-    let e : run s none 0 ≡ start (variant_of suite) = rw (es, ez) in
-    digest_is suite (take max_input m) l e (rw t at ea) ed
+    digest_is suite (take max_input m) l es (rw t at ea) ed
 
 module _ (suite : ℕ) (input out : List ℕ) where
   abbrev n : ℕ
   n = hash_number suite (length input) (length out)
-
-  small : n ≤ 13
-  unfolding hash_number
-  small =
-      at_most (not (known suite)) 13 2 _ (omega arith)
-      (at_most (ltb max_input (length input)) 13 9 _ (omega arith)
-      (at_most (ltb (length out) (hash_length suite)) 13 11 0 (omega arith) (omega arith)))
-
-  pub hash-refused : {k : ℕ} {r : Answer} → k ≡ n → (k ≡ 0 → ⊥) → (number r ≡ min k 13) × (count r ≡ cond (eqb k 0) 0 0)
-      → Answered n (hash suite input) out r out
-  hash-refused {k} {r} e some a =
-      subst (λ (z : ℕ). Answered z (hash suite input) out r out) e
-      (refused k (hash suite input) out r (let s = small in omega arith) some 0 a.0 a.1)
 
   fits : n ≡ 0 → (length input ≤ max_input) × (hash_length suite ≤ length out)
   unfolding hash_number
@@ -64,12 +47,11 @@ module _ (suite : ℕ) (input out : List ℕ) where
       let c = passed (ltb (length out) (hash_length suite)) 11 0 (λ z. omega arith) b.1 in
       (ltb-false max_input (length input) b.0, ltb-false (length out) (hash_length suite) c.0)
 
-  pub hash-done : {k h : ℕ} {d after' : List ℕ} {r : Answer} → k ≡ n → k ≡ 0 → h ≡ hash_length suite → d ≡ placed (hash suite (take max_input input))
-      → after' ≡ after 0 (take h d) out → (number r ≡ 0) × (count r ≡ h) → Answered n (hash suite input) out r after'
-  hash-done {k} {h} {d} {after'} {r} e z eh ed eo a =
-      let f = fits (sym e ∙ z) in
+  pub hash-done : {h : ℕ} {d after' : List ℕ} → 0 ≡ n → h ≡ hash_length suite → d ≡ placed (hash suite (take max_input input))
+      → after' ≡ after 0 (take h d) out → Answered n (hash suite input) out (Ok h) after'
+  hash-done {h} {d} e eh ed eo =
+      let f = fits (sym e) in
       let l = length-hash suite input in
       let c : take max_input input ≡ input = take_all max_input input (omega arith) in
       let w : take h d ≡ hash suite input = ap (take h) (rw c at ed) ∙ take-placed h (hash suite input) (l ∙ sym eh) in
-      done n (hash suite input) out r small {c = h} (sym e ∙ z) a.0 a.1 (eh ∙ sym l)
-      (eo ∙ rw w (after_front (hash suite input) out (omega arith)))
+      answered-ok (hash suite input) out e refl (eh ∙ sym l) (eo ∙ rw w (after_front (hash suite input) out (omega arith)))

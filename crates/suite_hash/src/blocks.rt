@@ -23,32 +23,26 @@ const H384: [u64; 8] = [
     0x47b5481dbefa4fa4,
 ];
 
+// Each function matches on the hash for itself: which one a suite has is known only when a call runs.
+#[tactic(auto, unfolding(crate::specs::Variants::variant_of, fips180::specs::Variant::sha256, fips180::specs::Variant::sha384))]
 pub fn initial(suite: u16) -> [u64; 8]
     ensures { result ≡ (variant_of suite).H0 }
 {
-    let hash = Suite::hash(suite);
-    match hash {
+    match Suite::hash(suite) {
         Hash::Sha256 => H256,
         Hash::Sha384 => H384,
     }
 }
 
 // Takes the hash value s on over all whole blocks of p.
+#[tactic(auto, unfolding(crate::specs::Variants::variant_of))]
 pub fn fold(suite: u16, s: &mut [u64; 8], p: &[u8])
     ensures { s.new ≡ folded (variant_of suite) s.old p.now (length p.now / (variant_of suite).block) }
 {
-    let hash = Suite::hash(suite);
-    let x = *s;
-    match hash {
-        Hash::Sha256 => {
-            let y = sha256::fold(x, p);
-            *s = y;
-        }
-        Hash::Sha384 => {
-            let y = sha384::fold(x, p);
-            *s = y;
-        }
-    }
+    *s = match Suite::hash(suite) {
+        Hash::Sha256 => sha256::fold(*s, p),
+        Hash::Sha384 => sha384::fold(*s, p),
+    };
 }
 
 // Takes the hash value s on over the block at the front of p.
@@ -60,34 +54,35 @@ pub(crate) fn compress(suite: u16, s: &mut [u64; 8], p: &[u8])
     fold(suite, s, &p[..b]);
 }
 
-// The digest of a hash value, in 48 bytes with zeros behind it.
+// The digest of a hash value, in 48 bytes with zeros behind it. Apart from its caller, as the padding is.
+#[inline(never)]
+#[tactic(auto, unfolding(crate::specs::Variants::variant_of))]
 pub(crate) fn digest(suite: u16, s: [u64; 8]) -> [u8; 48]
     ensures { result ≡ digest_in48 (variant_of suite) s }
 {
-    let hash = Suite::hash(suite);
-    match hash {
+    match Suite::hash(suite) {
         Hash::Sha256 => sha256::digest(s),
         Hash::Sha384 => sha384::digest(s),
     }
 }
 
 // The bytes that the block at hand holds, after count bytes.
+#[tactic(auto, unfolding(crate::specs::Variants::variant_of, fips180::specs::Variant::sha256, fips180::specs::Variant::sha384))]
 pub(crate) fn place(suite: u16, count: u64) -> usize
     ensures { result ≡ count % (variant_of suite).block }
 {
-    let hash = Suite::hash(suite);
-    match hash {
+    match Suite::hash(suite) {
         Hash::Sha256 => (count % 64) as usize,
         Hash::Sha384 => (count % 128) as usize,
     }
 }
 
 // How many of n bytes are whole blocks.
+#[tactic(auto, unfolding(crate::specs::Variants::variant_of, fips180::specs::Variant::sha256, fips180::specs::Variant::sha384))]
 pub(crate) fn whole(suite: u16, n: usize) -> usize
     ensures { result ≡ n / (variant_of suite).block * (variant_of suite).block }
 {
-    let hash = Suite::hash(suite);
-    match hash {
+    match Suite::hash(suite) {
         Hash::Sha256 => n / 64 * 64,
         Hash::Sha384 => n / 128 * 128,
     }

@@ -1,27 +1,28 @@
--- The end of a field.
-use Prim.Native.Nat.{ℕ, ◌+◌, ◌≤◌, ◌<◌}
-use mathlib.Core.Path.{◌≡◌}
-use mathlib.Core.List.{List}
-use native.Mathlib.Numerals.{add-one}
+-- The length of a field.
+use Prim.Native.Nat.{ℕ, suc, ◌+◌, ◌≤◌}
+use mathlib.Core.Bool.{Bool, true, false, cond, not, ◌&&◌, ◌||◌}
+use mathlib.Core.Path.{◌≡◌, refl}
+use mathlib.Core.List.{List, [], ◌∷◌}
 use native.Mathlib.Omega.{arith}
-use lib.ListN.{length, get_or}
-use lib.Seq.{drop-cons}
-use borrow.Author.Tests.{ne_eqb}
-use Rattle.text.specs.Field.{field_len, field_end}
+use lib.Dec.{eqb}
+use lib.ListN.{length}
+use Rattle.std.specs.List.{prefix_len}
+use Rattle.std.proofs.lemmas.List.Sums.{prefix_len-le-length}
+use Rattle.text.specs.Field.{field_len}
 
-module _ (s : List ℕ) (i : ℕ) where
-  pub field_next : i < length s → (get_or s i 0 ≡ 32 → ⊥) → (get_or s i 0 ≡ 10 → ⊥) → field_end s (i + 1) ≡ field_end s i
-  unfolding field_end field_len
-  field_next h a b = rw (add-one, drop-cons s i 0, ne_eqb _ _ a, ne_eqb _ _ b) (omega arith)
+-- no space and no line feed
+abbrev pub is_inside : ℕ → Bool
+is_inside c = not (eqb c 32) && not (eqb c 10)
 
-  pub field-space : i < length s → get_or s i 0 ≡ 32 → i ≡ field_end s i
-  unfolding field_end field_len
-  field-space h e = rw (drop-cons s i 0, e) (omega arith)
+one : (t u : Bool) (n : ℕ) → cond (t || u) 0 (suc n) ≡ cond (not t && not u) (1 + n) 0
+one true u n = refl
+one false true n = refl
+one false false n = omega arith
 
-  pub field-line : i < length s → get_or s i 0 ≡ 10 → i ≡ field_end s i
-  unfolding field_end field_len
-  field-line h e = rw (drop-cons s i 0, e) (omega arith)
+pub len_is : (s : List ℕ) → field_len s ≡ prefix_len is_inside s
+unfolding field_len
+len_is [] = refl
+len_is (c ∷ cs) = rw (len_is cs) (one (eqb c 32) (eqb c 10) _)
 
-  pub field_past : length s ≤ i → length s ≡ field_end s i
-  unfolding field_end
-  field_past h = omega arith
+pub len_within : (s : List ℕ) → field_len s ≤ length s
+len_within s = rw len_is (prefix_len-le-length is_inside s)

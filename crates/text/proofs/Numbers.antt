@@ -2,7 +2,7 @@
 use Prim.Native.Nat.{ℕ, zero, suc, ◌+◌, ◌-◌, ◌*◌, ◌/◌, ◌%◌, ◌^◌, ◌≤◌, ◌<◌}
 use mathlib.Core.Bool.{Bool, true, false, cond}
 use mathlib.Core.Path.{◌≡◌, refl}
-use mathlib.Core.List.{List, [], ◌∷◌}
+use mathlib.Core.List.{List}
 use mathlib.Core.Logic.{◌⊎◌, inl, inr, ⊎_elim}
 use native.Mathlib.Nat.{pow-suc}
 use native.Mathlib.Numerals.{add-one}
@@ -13,9 +13,8 @@ use lib.Seq.{drop-cons}
 use borrow.Author.Tests.{lt-ltb, le-ltb, ltb-true, ltb-false, ne_eqb, eq-eqb}
 use Rattle.buffer.specs.Buffer.{after, behind}
 use Rattle.io.specs.Digits.{last_digits, IsDigitCount}
-use Rattle.text.specs.Decimal.{digits_of, decimal_of, max_decimal, decimal_value, read_on, read_decimal}
-use Rattle.text.specs.declared.decimal.DecimalRead.{DecimalRead}
-use Rattle.text.specs.declared.decimal.DecimalRead.TheVariants.{Value, Bad}
+use Rattle.text.specs.Decimal.{digits_of, decimal_of, max_decimal, decimal_value, read_digit, read_on, read_decimal}
+use Rattle.std.specs.Prelude.{None, Some}
 
 -- the digits of `io::decimal` are those of the definition
 some_power : (k : ℕ) → 1 ≤ 10 ^ k
@@ -60,20 +59,28 @@ pub put_same : (at : ℕ) (xs : List ℕ) {r : ℕ} {bs cs ys : List ℕ} → bs
 put_same at xs e p q = (rw (← e) p, rw (← e) q)
 
 -- one character more
-module _ (s : List ℕ) (i n d : ℕ) (h : i < length s) (is : d ≡ decimal_value (get_or s i 0)) where
-  pub read_next : (d ≡ 10 → ⊥) → n * 10 + d ≤ max_decimal → read_on (n * 10 + d) (drop (i + 1) s) ≡ read_on n (drop i s)
-  unfolding read_on
-  read_next t m = rw (add-one, drop-cons s i 0, ← is, ne_eqb _ _ t, le-ltb _ _ m)
+digit_by : (v : ℕ) (t : Bool) {d : ℕ} → cond t None (Some v) ≡ Some d → (t ≡ false) × (d ≡ v)
+digit_by v true e = (cc, cc)
+digit_by v false e = (refl, cc)
 
-  pub read_none : d ≡ 10 → Bad ≡ read_on n (drop i s)
-  unfolding read_on
-  read_none t = rw (drop-cons s i 0, ← is, eq-eqb _ _ t)
+none_by : (v : ℕ) (t : Bool) → cond t None (Some v) ≡ None → t ≡ true
+none_by v true e = refl
+none_by v false e = cc
 
-  pub read_large : (d ≡ 10 → ⊥) → max_decimal < n * 10 + d → Bad ≡ read_on n (drop i s)
-  unfolding read_on
-  read_large t m = rw (drop-cons s i 0, ← is, ne_eqb _ _ t, lt-ltb _ _ m)
+module _ (s : List ℕ) (i n : ℕ) (h : i < length s) where
+  pub read_next : {d : ℕ} → read_digit (get_or s i 0) ≡ Some d → n * 10 + d ≤ max_decimal → read_on (n * 10 + d) (drop (i + 1) s) ≡ read_on n (drop i s)
+  unfolding read_on read_digit
+  read_next e m = let x = digit_by (decimal_value (get_or s i 0)) (eqb (decimal_value (get_or s i 0)) 10) e in rw (add-one, drop-cons s i 0, x.0, ← x.1, le-ltb _ _ m)
 
-pub read_end : (s : List ℕ) (i n : ℕ) → length s ≤ i → Value n ≡ read_on n (drop i s)
+  pub read_large : {d : ℕ} → read_digit (get_or s i 0) ≡ Some d → max_decimal < n * 10 + d → None ≡ read_on n (drop i s)
+  unfolding read_on read_digit
+  read_large e m = let x = digit_by (decimal_value (get_or s i 0)) (eqb (decimal_value (get_or s i 0)) 10) e in rw (drop-cons s i 0, x.0, ← x.1, lt-ltb _ _ m)
+
+  pub read_none : read_digit (get_or s i 0) ≡ None → None ≡ read_on n (drop i s)
+  unfolding read_on read_digit
+  read_none e = let x = none_by (decimal_value (get_or s i 0)) (eqb (decimal_value (get_or s i 0)) 10) e in rw (drop-cons s i 0, x)
+
+pub read_end : (s : List ℕ) (i n : ℕ) → length s ≤ i → Some n ≡ read_on n (drop i s)
 unfolding read_on
 read_end s i n h = rw (drop_of_length-le s {i = i} h)
 
@@ -81,23 +88,6 @@ pub read_some : (s : List ℕ) → (length s ≡ 0 → ⊥) → read_on 0 s ≡ 
 unfolding read_decimal
 read_some s n = rw (ne_eqb _ _ n)
 
-pub read_empty : (s : List ℕ) → length s ≡ 0 → Bad ≡ read_decimal s
+pub read_empty : (s : List ℕ) → length s ≡ 0 → None ≡ read_decimal s
 unfolding read_decimal
 read_empty s e = rw (eq-eqb _ _ e)
-
--- what was read is at most the largest
-within : (t u : Bool) (r : DecimalRead) (m : ℕ) → (u ≡ false → r ≡ Value m → m ≤ max_decimal) → cond t Bad (cond u Bad r) ≡ Value m → m ≤ max_decimal
-within true u r m h e = absurd (let z : ◌≡◌ {A = ℕ} 0 1 = cc in omega arith)
-within false true r m h e = absurd (let z : ◌≡◌ {A = ℕ} 0 1 = cc in omega arith)
-within false false r m h e = h refl e
-
-on_within : (n : ℕ) (s : List ℕ) (m : ℕ) → n ≤ max_decimal → read_on n s ≡ Value m → m ≤ max_decimal
-unfolding read_on
-on_within n [] m l e = let z : n ≡ m = cc in omega arith
-on_within n (c ∷ cs) m l e =
-    let k = n * 10 + decimal_value c in
-    within (eqb (decimal_value c) 10) (ltb max_decimal k) (read_on k cs) m (λ f. on_within k cs m (ltb-false _ _ f)) e
-
-pub value-within : (s : List ℕ) (m : ℕ) → read_decimal s ≡ Value m → m ≤ max_decimal
-unfolding read_decimal
-value-within s m e = within (eqb (length s) 0) false (read_on 0 s) m (λ f. on_within 0 s m (omega arith)) e

@@ -1,7 +1,5 @@
 -- Numbers as decimal digits.
-use Rattle.std.specs.Prelude.{ℕ, zero, suc, ◌+◌, ◌-◌, ◌*◌, ◌/◌, ◌%◌, cond, ◌&&◌, List, [], ◌∷◌, ◌++◌, length, eqb, leb, ltb}
-use Rattle.text.specs.declared.decimal.DecimalRead.{DecimalRead}
-use Rattle.text.specs.declared.decimal.DecimalRead.TheVariants.{Value, Bad}
+use Rattle.std.specs.Prelude.{ℕ, zero, suc, ◌+◌, ◌-◌, ◌*◌, ◌/◌, ◌%◌, cond, ◌&&◌, List, [], ◌∷◌, ◌++◌, length, eqb, leb, ltb, Option, None, Some}
 
 -- the digits of a number that has at most that many, without leading zeros; 0 is one digit
 unfoldable pub digits_of : ℕ → ℕ → List ℕ
@@ -20,14 +18,18 @@ max_decimal = 4294967295
 unfoldable pub decimal_value : ℕ → ℕ
 decimal_value c = cond (leb 48 c && leb c 57) (c - 48) 10
 
+-- that value, where c is a digit
+unfoldable pub read_digit : ℕ → Option ℕ
+read_digit c = cond (eqb (decimal_value c) 10) None (Some (decimal_value c))
+
 -- n, and then the digits s
-unfoldable pub read_on : ℕ → List ℕ → DecimalRead
-read_on n [] = Value n
+unfoldable pub read_on : ℕ → List ℕ → Option ℕ
+read_on n [] = Some n
 read_on n (c ∷ cs) =
     let next = n * 10 + decimal_value c in
-    cond (eqb (decimal_value c) 10) Bad
-    (cond (ltb max_decimal next) Bad (read_on next cs))
+    cond (eqb (decimal_value c) 10) None
+    (cond (ltb max_decimal next) None (read_on next cs))
 
 -- s read as a number: at least one digit
-unfoldable pub read_decimal : List ℕ → DecimalRead
-read_decimal s = cond (eqb (length s) 0) Bad (read_on 0 s)
+unfoldable pub read_decimal : List ℕ → Option ℕ
+read_decimal s = cond (eqb (length s) 0) None (read_on 0 s)

@@ -1,14 +1,7 @@
 // Numbers as decimal digits.
-ghost use Rattle.std.specs.Prelude.{◌≡◌, ◌≤◌};
+ghost use Rattle.std.specs.Prelude.{◌≡◌, ◌<◌, ◌≤◌, IfSome};
 ghost use Rattle.buffer.specs.Buffer.{after, behind};
-ghost use Rattle.text.specs.Decimal.{decimal_of, decimal_value, read_decimal};
-
-// What get_decimal answers.
-#[derive(Clone, Copy)]
-pub enum DecimalRead {
-    Value(u64),
-    Bad,
-}
+ghost use Rattle.text.specs.Decimal.{decimal_of, read_digit, read_decimal, max_decimal};
 
 // The largest number that is read.
 pub const MAX: u64 = 4294967295;
@@ -23,35 +16,27 @@ pub fn put_decimal(out: &mut [u8], at: usize, n: u64) -> usize
     buffer::put(out, at, &digits[..k])
 }
 
-// The value of a digit, and 10 where c is none.
-fn value(c: u8) -> u64
-    ensures { (result ≡ decimal_value c) × (result ≤ 10) }
+// The value of a digit, where c is one.
+#[tactic(auto, unfolding(crate::specs::Decimal::decimal_value, crate::specs::Decimal::read_digit))]
+fn value(c: u8) -> Option<u32>
+    ensures { (result ≡ read_digit c) × IfSome result (λ d. d < 10) }
 {
-    match c {
-        48..=57 => (c - 48) as u64,
-        _ => 10,
-    }
+    char::from(c).to_digit(10)
 }
 
 // Reads all of s as a number of at most MAX: at least one digit, and leading zeros are taken.
-pub fn get_decimal(s: &[u8]) -> DecimalRead
-    ensures { result ≡ read_decimal s.now }
+pub fn get_decimal(s: &[u8]) -> Option<u64>
+    ensures { (result ≡ read_decimal s.now) × IfSome result (λ n. n ≤ max_decimal) }
 {
-    if s.len() == 0 {
-        return DecimalRead::Bad;
+    if s.is_empty() {
+        return None;
     }
     let mut n: u64 = 0;
-    let mut i = 0;
-    while i < s.len() {
-        let d = value(s[i]);
-        if d == 10 {
-            return DecimalRead::Bad;
-        }
-        n = n * 10 + d;
+    for c in s {
+        n = n * 10 + u64::from(value(*c)?);
         if MAX < n {
-            return DecimalRead::Bad;
+            return None;
         }
-        i += 1;
     }
-    DecimalRead::Value(n)
+    Some(n)
 }

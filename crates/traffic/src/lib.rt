@@ -7,7 +7,6 @@ ghost use Rattle.suite.specs.Suite.{hash_length};
 ghost use Rattle.suite_hash.specs.Hash.{hash, max_input};
 ghost use Rattle.schedule.specs.Schedule.{within, next_traffic_secret, write_key, write_iv, verify_data};
 
-use hmac::mac;
 use keyed::{label_block, ready};
 use oneshot::digest;
 use suite::Suite;
@@ -25,7 +24,7 @@ pub fn traffic_keys(suite: u16, secret: [u8; 48]) -> TrafficKeys
     let k = ready(suite, secret);
     let key = label_block(suite, k, b"key", b"", Suite::key_len(suite));
     let iv = label_block(suite, k, b"iv", b"", Suite::iv_len(suite));
-    TrafficKeys { key: key, iv: iv }
+    TrafficKeys { key, iv }
 }
 
 // application_traffic_secret_N+1.
@@ -45,10 +44,11 @@ pub fn verify_data(suite: u16, base: [u8; 48], transcript: [u8; 48]) -> [u8; 48]
     let k = ready(suite, base);
     let finished_key = label_block(suite, k, b"finished", b"", h);
     let finished = ready(suite, finished_key);
-    mac(suite, finished, &transcript[..h], b"", b"")
+    finished.mac(suite, &[&transcript[..h]])
 }
 
 // The hash of messages that lie in one slice.
+#[tactic(auto, unfolding(schedule::specs::Schedule::within))]
 pub fn messages_hash(suite: u16, messages: &[u8]) -> [u8; 48]
     ensures { result ≡ placed (hash suite (within max_input messages.now)) }
 {

@@ -2,10 +2,8 @@
 // print differs or same, or the refusal. Document 002's exporter lacks the inner Derive-Secret; document 003 feeds each
 // chain secret straight into the next, and takes zeros as the key of the last step.
 //   draft-export NAME LENGTH LABEL CONTEXT; draft-handshake GROUP 0 SECRET; draft-master
-use super::output::{say, say_refused};
-use super::places::place;
+use super::output::{Outcome, Value};
 use application_stage::application;
-use check::same;
 use extract::extract;
 use handshake_stage::handshake;
 use hkdf::label::expand_label;
@@ -13,37 +11,15 @@ use oneshot::hash;
 use outputs::export::export;
 use refusal::Answer;
 use session::Session;
-use std::io;
-use std::io::Stdout;
 use suite::Suite;
 
 // Compares what the session's call and the draft's made.
-fn compare(
-    stdout: Stdout,
-    made: Answer,
-    drafted: Answer,
-    value: &[u8],
-    draft: &[u8],
-) -> io::Result<()> {
-    if made.number() != 0 {
-        return say_refused(stdout, made.number());
-    }
-    if drafted.number() != 0 {
-        return say_refused(stdout, drafted.number());
-    }
-    if same(value, draft) {
-        say(stdout, b"same")
+fn compare(value: &[u8], draft: &[u8]) -> Outcome<'static> {
+    Ok(if value == draft {
+        Value::Same
     } else {
-        say(stdout, b"differs")
-    }
-}
-
-// The place of the exporter's secret.
-fn exporter(name: u8) -> u8 {
-    match name {
-        1 => 4,
-        _ => 9,
-    }
+        Value::Differs
+    })
 }
 
 // Expand-Label over the exporter's secret itself.
@@ -56,54 +32,43 @@ fn draft_export(
     out: &mut [u8],
 ) -> Answer {
     let mut digest = [0u8; 48];
+    hash(suite, context, &mut digest)?;
     let h = Suite::hash_len(suite);
-    hash(suite, context, &mut digest);
     expand_label(suite, secret, label, &digest[..h], asked, out)
 }
 
 pub(crate) fn compare_export(
-    stdout: Stdout,
     s: Session,
     name: u8,
     asked: usize,
     label: &[u8],
     context: &[u8],
-) -> io::Result<()> {
+) -> Outcome<'static> {
     let mut value = [0u8; 512];
-    let made = export(s, name, label, context, asked, &mut value);
-    let mut draft = [0u8; 512];
+    export(s, name, label, context, asked, &mut value)?;
+    let secret = match name {
+        1 => s.early_exporter,
+        _ => s.exporter,
+    };
     let h = Suite::hash_len(s.suite);
-    let secret = place(s, exporter(name));
-    let drafted = draft_export(s.suite, &secret[..h], asked, label, context, &mut draft);
-    compare(stdout, made, drafted, &value, &draft)
+    let mut draft = [0u8; 512];
+    draft_export(s.suite, &secret[..h], asked, label, context, &mut draft)?;
+    compare(&value, &draft)
 }
 
-pub(crate) fn compare_handshake(
-    stdout: Stdout,
-    s: Session,
-    group: u16,
-    secret: &[u8],
-) -> io::Result<()> {
-    let outcome = handshake(s, group, secret);
-    let made = outcome.answer;
-    let next = outcome.session;
-    let early = place(s, 1);
+pub(crate) fn compare_handshake(s: Session, group: u16, secret: &[u8]) -> Outcome<'static> {
+    let next = handshake(s, group, secret)?;
     let h = Suite::hash_len(s.suite);
     let mut draft = [0u8; 48];
-    let drafted = extract(s.suite, &early[..h], secret, &mut draft);
-    let value = place(next, 1);
-    compare(stdout, made, drafted, &value, &draft)
+    extract(s.suite, &s.chain[..h], secret, &mut draft)?;
+    compare(&next.chain, &draft)
 }
 
-pub(crate) fn compare_master(stdout: Stdout, s: Session) -> io::Result<()> {
-    let outcome = application(s);
-    let made = outcome.answer;
-    let next = outcome.session;
-    let before = place(s, 1);
+pub(crate) fn compare_master(s: Session) -> Outcome<'static> {
+    let next = application(s)?;
     let h = Suite::hash_len(s.suite);
     let key = [0u8; 48];
     let mut draft = [0u8; 48];
-    let drafted = extract(s.suite, &key[..h], &before[..h], &mut draft);
-    let value = place(next, 1);
-    compare(stdout, made, drafted, &value, &draft)
+    extract(s.suite, &key[..h], &s.chain[..h], &mut draft)?;
+    compare(&next.chain, &draft)
 }

@@ -1,76 +1,59 @@
 // A line: a name, an operation, and what the operation asks for, with one space between fields.
-ghost use Rattle.std.specs.Prelude.{◌≡◌, ◌+◌, ◌≤◌, min, length};
-
-use super::calling::answer_session;
-use super::hashing::answer_hash;
-use super::keying::answer_keying;
-use super::names::{Operation, operation_named};
-use super::output::say;
+use super::arguments::Arguments;
+use super::fields::cut;
+use super::hashing::hash;
+use super::names::Operation;
+use super::output::{Fault, Outcome, Value};
 use session::{Session, fresh};
 use std::io;
-use std::io::Stdout;
-use text::field::field_end;
+use std::io::{Print, Stdout};
 
-// The end of the line that starts at index from.
-fn line_end(text: &[u8], from: usize) -> usize
-    requires { from ≤ length text.now }
-    ensures { (from ≤ result) × (result ≤ length text.now) }
-{
-    let mut i = from;
-    while i < text.len() {
-        if text[i] == b'\n' {
-            return i;
+// Makes an operation, and answers its value. Bytes are written to room.
+fn value<'a>(
+    session: &mut Session,
+    name: &[u8],
+    fields: &[u8],
+    room: &'a mut [u8; 512],
+) -> Outcome<'a> {
+    let mut x = [0u8; 4096];
+    let mut y = [0u8; 4096];
+    match Operation::named(name).ok_or(Fault::BadLine)? {
+        Operation::Hash => hash(fields, room),
+        Operation::Keying(keying) => {
+            let given = Arguments::all(fields, &mut x, &mut y).ok_or(Fault::BadLine)?;
+            keying.value(given, room)
         }
-        i += 1;
-    }
-    i
-}
-
-// The index behind the space or line feed at index end.
-pub(crate) fn behind_space(text: &[u8], end: usize) -> usize
-    ensures { result ≡ min (end + 1) (length text.now) }
-{
-    if end < text.len() {
-        end + 1
-    } else {
-        text.len()
-    }
-}
-
-// Prints the value of an operation, and answers the session after it.
-fn answer_operation(stdout: Stdout, s: Session, name: &[u8], rest: &[u8]) -> io::Result<Session> {
-    let operation = operation_named(name);
-    match operation {
-        Operation::Hash => answer_hash(stdout, rest)?,
-        Operation::Keying(keying) => answer_keying(stdout, keying, rest)?,
-        Operation::Unknown => say(stdout, b"bad line")?,
-        _ => {
-            return answer_session(stdout, s, operation, rest);
+        Operation::Change(change) => {
+            let given = Arguments::some(fields, &mut x, &mut y).ok_or(Fault::BadLine)?;
+            *session = change.call(*session, given)?;
+            Ok(Value::Done)
+        }
+        Operation::Reading(reading) => {
+            let given = Arguments::some(fields, &mut x, &mut y).ok_or(Fault::BadLine)?;
+            reading.value(*session, given, room)
         }
     }
-    Ok(s)
 }
 
-fn answer(stdout: Stdout, s: Session, line: &[u8]) -> io::Result<Session> {
-    let end = field_end(line, 0);
-    let from = behind_space(line, end);
-    let to = field_end(line, from);
-    let rest = behind_space(line, to);
-    say(stdout, &line[..end])?;
-    say(stdout, b" ")?;
-    let next = answer_operation(stdout, s, &line[from..to], &line[rest..])?;
-    say(stdout, b"\n")?;
-    Ok(next)
+fn answer(stdout: Stdout, session: &mut Session, line: &[u8]) -> io::Result<()> {
+    let (name, rest) = cut(line);
+    let (operation, fields) = cut(rest);
+    let mut room = [0u8; 512];
+    stdout.write_all(name)?;
+    match value(session, operation, fields, &mut room) {
+        Ok(value) => println!(stdout; " {value}"),
+        Err(fault) => println!(stdout; " {fault}"),
+    }
 }
 
 pub(crate) fn answer_all(stdout: Stdout, text: &[u8]) -> io::Result<()> {
     let mut session = fresh();
-    let mut at: usize = 0;
-    while at < text.len() {
-        let end = line_end(text, at);
-        let next = answer(stdout, session, &text[at..end])?;
-        session = next;
-        at = behind_space(text, end);
+    for line in text.split_inclusive(|b| *b == b'\n') {
+        answer(
+            stdout,
+            &mut session,
+            line.strip_suffix(b"\n").unwrap_or(line),
+        )?;
     }
     Ok(())
 }

@@ -1,49 +1,65 @@
-// What is printed.
-use hex_text::put_hex;
-use refusal::Answer;
-use std::io;
-use std::io::{Print, Stdout};
-use text::decimal::put_decimal;
+// What is printed of a line behind its name.
+use refusal::Refusal;
+use std::fmt;
 
-pub(crate) fn say(stdout: Stdout, words: &[u8]) -> io::Result<()> {
-    stdout.write_all(words)
+// The value of an operation.
+#[derive(Clone, Copy)]
+pub(crate) enum Value<'a> {
+    Done,
+    Bytes(&'a [u8]),
+    Yes,
+    No,
+    Same,
+    Differs,
 }
 
-// The first n bytes of out.
-fn say_front(stdout: Stdout, out: &[u8], n: usize) -> io::Result<()> {
-    if n <= out.len() {
-        return say(stdout, &out[..n]);
+impl fmt::Display for Value<'_> {
+    fn fmt<W: fmt::Write>(&self, f: &mut fmt::Formatter<W>) -> fmt::Result {
+        match *self {
+            Value::Done => f.write_str("done"),
+            Value::Bytes(bytes) => {
+                for b in bytes {
+                    write!(f, "{b:02x}")?;
+                }
+                Ok(())
+            }
+            Value::Yes => f.write_str("yes"),
+            Value::No => f.write_str("no"),
+            Value::Same => f.write_str("same"),
+            Value::Differs => f.write_str("differs"),
+        }
     }
-    Ok(())
 }
 
-fn say_number(stdout: Stdout, n: u64) -> io::Result<()> {
-    let mut digits = [0u8; 20];
-    let end = put_decimal(&mut digits, 0, n);
-    say_front(stdout, &digits, end)
+// Why a line has no value.
+#[derive(Clone, Copy)]
+pub(crate) enum Fault {
+    BadLine,
+    Refused(Refusal),
 }
 
-// At most 512 bytes.
-pub(crate) fn say_hex(stdout: Stdout, bytes: &[u8]) -> io::Result<()> {
-    let mut digits = [0u8; 1024];
-    let end = put_hex(&mut digits, 0, bytes);
-    say_front(stdout, &digits, end)
-}
-
-pub(crate) fn say_refused(stdout: Stdout, number: u8) -> io::Result<()> {
-    say(stdout, b"refused ")?;
-    say_number(stdout, number as u64)
-}
-
-// The bytes that an answer reports written to the front of out, at most 512; or the refusal.
-pub(crate) fn say_written(stdout: Stdout, answer: Answer, out: &[u8]) -> io::Result<()> {
-    let number = answer.number();
-    let count = answer.count();
-    if number != 0 {
-        return say_refused(stdout, number);
+impl From<Refusal> for Fault {
+    fn from(why: Refusal) -> Fault {
+        Fault::Refused(why)
     }
-    if count <= out.len() {
-        return say_hex(stdout, &out[..count]);
+}
+
+impl fmt::Display for Fault {
+    fn fmt<W: fmt::Write>(&self, f: &mut fmt::Formatter<W>) -> fmt::Result {
+        match *self {
+            Fault::BadLine => f.write_str("bad line"),
+            Fault::Refused(why) => {
+                let number = why.number();
+                write!(f, "refused {number}")
+            }
+        }
     }
-    Ok(())
+}
+
+// What an operation comes to.
+pub(crate) type Outcome<'a> = Result<Value<'a>, Fault>;
+
+// The n bytes that a call wrote to the front of room; it writes no more than there is room.
+pub(crate) fn front(room: &[u8], n: usize) -> Outcome<'_> {
+    Ok(Value::Bytes(&room[..n.min(room.len())]))
 }

@@ -4,4 +4,4 @@ use Rattle.chain_secrets.proofs.early_secret.Goals as goal
 
 pub returns : goal.returns
 unfolding within
-returns c = early_is _ _ c.zeros48-salt.ensures c.extract_or_zeros.ensures
+returns c = early_is _ _ c.zeros-salt.ensures c.extract_or_zeros.ensures

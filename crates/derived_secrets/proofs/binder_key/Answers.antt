@@ -1,11 +1,12 @@
+use native.Mathlib.Omega.{arith}
 use Rattle.schedule.proofs.Derivations.{external_is, resumption_is}
 use Rattle.schedule.specs.Labels.{label}
 use Rattle.derived_secrets.proofs.binder_key.Goals as goal
 
-pub returns-then-kind-eq1 : goal.returns-then-kind-eq1
+pub returns-in-1 : goal.returns-in-1
 unfolding label
-returns-then-kind-eq1 c = external_is _ _ _ c.if-kind-eq1.true c.over_nothing.ensures
+returns-in-1 c = external_is _ _ _ c.in-1.is c.over_nothing.ensures
 
-pub returns : goal.returns
+pub returns-in_default : goal.returns-in_default
 unfolding label
-returns c = resumption_is _ _ _ c.if-kind-eq1.false c.over_nothing-2.ensures
+returns-in_default c = resumption_is _ c.args.kind _ (λ e. omega arith) c.over_nothing-in_default.ensures

@@ -1,4 +1,4 @@
-use Rattle.schedule.proofs.Derivations.{secret_is, over_hash}
+use Rattle.schedule.proofs.Derivations.{secret_is}
 use Rattle.schedule.specs.Labels.{Secret, label}
 use Rattle.derived_secrets.proofs.resumption_secret.Goals as goal
 
@@ -7,4 +7,4 @@ unfolding label
 returns c =
     let h = c.hash_len-h.ensures.0 in
     let k = c.ready-k.ensures in
-    secret_is _ Secret.resumption _ _ k (over_hash _ _ _ _ h c.derive.ensures)
+    secret_is _ Secret.resumption _ _ h k c.derive.ensures

@@ -1,23 +1,20 @@
-use Prim.Native.Nat.{ℕ, ◌≤◌}
-use mathlib.Core.Path.{refl, sym, ◌∙◌, subst}
+use mathlib.Core.Path.{refl}
+use Rattle.std.proofs.Common.{rules}
 use Rattle.book.specs.Call.Call.{Early}
 use Rattle.book.specs.Call.{lent}
 use Rattle.session.specs.Values.{written, verdict}
-use Rattle.book.proofs.Accepted.{early_small}
-use Rattle.session.proofs.Calls.{refused-by, accepted-plain}
+use Rattle.session.proofs.Calls.{refused-plain, accepted-plain}
 use Rattle.session.proofs.Decisions.{early_is}
 use Rattle.early_stage.proofs.early.Goals as goal
 
-pub returns-then-number-ne0 : goal.returns-then-number-ne0
+pub returns-in_err-judge : goal.returns-in_err-judge
 unfolding lent
-returns-then-number-ne0 c = let n = c.early_number-number.ensures in
-    refused-by _ Early _ c.decided.result (early_is c.args.s n)
-    (subst (λ (k : ℕ). k ≤ 13) (sym n) (early_small _ _ _ _)) c.if-number-ne0.true c.decided.ensures
+returns-in_err-judge c = let a = c.args in
+    refused-plain a.s Early refl (early_is a.s refl) c.in_err-judge.field-0.0 c.in_err-judge.ensures (search rules)
 
 pub returns : goal.returns
 unfolding lent written verdict
-returns c = let s = c.args.s in
+returns c = let a = c.args in
     let made = c.early_secrets-made.ensures in
-    accepted-plain s Early _ c.decided-2.result refl (λ b. refl) (λ b. refl)
-    (λ b r e. sym (early_is s c.early_number-number.ensures b r e) ∙ c.if-number-ne0.false)
-    (λ b r e y. c.early_kept-next.ensures b _ r e y c.finish-hash.ensures made.0 made.1) c.decided-2.ensures
+    accepted-plain a.s Early refl (early_is a.s refl) (λ b. refl) (λ b. refl) c.in_ok-judge.ensures refl
+    (λ b r e y. c.early_kept.ensures b _ r e y c.digest-hash.ensures made.0 made.1)

@@ -1,34 +1,22 @@
-use Rattle.hkdf.proofs.Calls.{call-refused, call-done, mac_small, mac_fits, written, two_nothings}
-use Rattle.hmac.proofs.Prepared.{mac_under}
-use Rattle.hmac.proofs.Prepared.{length-hmac}
-use Rattle.hmac.specs.Rfc2104.{hmac}
-use mathlib.Core.List.{List, []}
-use Prim.Native.Nat.{ℕ}
+use Rattle.std.proofs.Common.{[], length, refl, sym, ap, ◌∙◌, append-nil, arith, rules}
 use Rattle.buffer.specs.Buffer.{placed}
-use lib.ListN.{length, length-take}
-use native.Mathlib.Omega.{arith}
-use mathlib.Core.Path.{sym, ap, ◌∙◌}
+use Rattle.refusal.proofs.Laws.{answered-ok, answered-err}
+use Rattle.hmac.specs.Rfc2104.{hmac}
+use Rattle.hmac.proofs.Prepared.{mac_under, length-hmac}
+use Rattle.hkdf.proofs.Calls.{mac_fits, written}
 use Rattle.extract.proofs.hmac.Goals as goal
 
-pub returns-then-number-ne0 : goal.returns-then-number-ne0
-returns-then-number-ne0 c =
-    let a = c.args in
-    call-refused _ _ a.out.now (mac_small a.suite (length a.key.now) (length a.message.now) (length a.out.now))
-    c.mac_number-number.ensures c.if-number-ne0.true c.decided.ensures
-
-pub slice_bounds-put-end : goal.slice_bounds-put-end
-slice_bounds-put-end c = simp length-take (omega arith)
+pub returns-in_err-judge : goal.returns-in_err-judge
+returns-in_err-judge c = answered-err _ c.args.out.now c.in_err-judge.field-0.0 c.in_err-judge.ensures (search rules)
 
 pub returns : goal.returns
 returns c =
     let a = c.args in
     let m = a.message.now in
-    let s = mac_small a.suite (length a.key.now) (length m) (length a.out.now) in
-    let e = c.mac_number-number.ensures in
-    let z = c.if-number-ne0.false in
+    let e = c.in_ok-judge.ensures in
     let h = c.hash_len-h.ensures.0 in
-    let f = mac_fits a.suite (length a.key.now) (length m) (length a.out.now) e z in
+    let f = mac_fits a.suite (length a.key.now) (length m) (length a.out.now) e in
     let l = length-hmac a.suite a.key.now m in
     let t = mac_under a.suite a.key.now m [] [] (omega (arith, f.0)) c.prepare-k.ensures c.mac-t.ensures
-    ∙ ap (λ (x : List ℕ). placed (hmac a.suite a.key.now x)) (two_nothings m) in
-    call-done _ _ a.out.now s e z (h ∙ sym l) (written a.suite _ _ a.out.now h l f.1 t c.put.ensures.1) c.decided-2.ensures
+    ∙ ap (λ x. placed (hmac a.suite a.key.now x)) (append-nil m) in
+    answered-ok _ a.out.now e refl (h ∙ sym l) (written a.suite _ _ a.out.now h l f.1 t c.put.ensures.1)

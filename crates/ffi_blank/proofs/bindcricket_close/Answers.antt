@@ -1,26 +1,15 @@
 use native.Mathlib.Omega.{arith}
 use mathlib.Core.List.{[]}
 use Rattle.book.specs.Call.Call.{Close}
+use mathlib.Core.Path.{refl}
+use Rattle.std.proofs.Common.{Ok}
 use Rattle.lent.proofs.Calls.{wrong_size_lem, changing}
-use borrow.Author.Rules.{rules}
 use Rattle.ffi_blank.proofs.bindcricket_close.Goals as goal
 
 pub returns-then-session-ne-SESSION_BYTES : goal.returns-then-session-ne-SESSION_BYTES
 returns-then-session-ne-SESSION_BYTES c = wrong_size_lem c.args.session.now Close [] c.if-session-ne-SESSION_BYTES.true
 
-pub decode-requires : goal.decode-requires
-decode-requires c = search rules
-
-pub close-done-requires : goal.close-done-requires
-close-done-requires c = search rules
-
-pub store-requires : goal.store-requires
-store-requires c = search rules
-
-pub shape_of-session : goal.shape_of-session
-shape_of-session c = search rules
-
 pub returns : goal.returns
 returns c =
     changing c.args.session.now Close c.if-session-ne-SESSION_BYTES.false (λ i. omega (arith, c.slice_known-1.given i))
-    c.decode.ensures c.close-done.result c.close-done.ensures c.store.ensures.0 c.store.ensures.1
+    c.decode.ensures (Ok c.close.result) c.close.ensures refl c.encode.ensures

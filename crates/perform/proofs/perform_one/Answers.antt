@@ -1,36 +1,36 @@
 use native.Mathlib.Omega.{arith}
 use borrow.Author.Tests.{ne_eqb}
 use Rattle.perform.specs.Encoding.{call_of}
-use Rattle.perform.proofs.Performing.{called}
+use Rattle.perform.proofs.Performing.{called, went}
 use Rattle.perform.proofs.perform_one.Goals as goal
 
 pub returns-in-1 : goal.returns-in-1
 unfolding call_of
-returns-in-1 c = called c.begin.ensures (rw c.in-1.is)
+returns-in-1 c = went c.begin.result c.begin.ensures c.unwrap_or.ensures (rw c.in-1.is)
 
 pub returns-in-2 : goal.returns-in-2
 unfolding call_of
-returns-in-2 c = called c.feed.ensures (rw c.in-2.is)
+returns-in-2 c = went c.feed.result c.feed.ensures c.unwrap_or-in-2.ensures (rw c.in-2.is)
 
 pub returns-in-3 : goal.returns-in-3
 unfolding call_of
-returns-in-3 c = called c.early.ensures (rw c.in-3.is)
+returns-in-3 c = went c.early.result c.early.ensures c.unwrap_or-in-3.ensures (rw c.in-3.is)
 
 pub returns-in-4 : goal.returns-in-4
 unfolding call_of
-returns-in-4 c = called c.handshake.ensures (rw c.in-4.is)
+returns-in-4 c = went c.handshake.result c.handshake.ensures c.unwrap_or-in-4.ensures (rw c.in-4.is)
 
 pub returns-in-5 : goal.returns-in-5
 unfolding call_of
-returns-in-5 c = called c.application.ensures (rw c.in-5.is)
+returns-in-5 c = went c.application.result c.application.ensures c.unwrap_or-in-5.ensures (rw c.in-5.is)
 
 pub returns-in-6 : goal.returns-in-6
 unfolding call_of
-returns-in-6 c = called c.complete.ensures (rw c.in-6.is)
+returns-in-6 c = went c.complete.result c.complete.ensures c.unwrap_or-in-6.ensures (rw c.in-6.is)
 
 pub returns-in-7 : goal.returns-in-7
 unfolding call_of
-returns-in-7 c = called c.update.ensures (rw c.in-7.is)
+returns-in-7 c = went c.update.result c.update.ensures c.unwrap_or-in-7.ensures (rw c.in-7.is)
 
 pub returns-in-9 : goal.returns-in-9
 unfolding call_of

@@ -1,10 +1,5 @@
-use lib.ListN.{length-take}
-use native.Mathlib.Omega.{arith}
 use Rattle.schedule.proofs.Derivations.{nothing_of, over_hash}
 use Rattle.schedule.proofs.over_nothing.Goals as goal
-
-pub slice_bounds-derive-end : goal.slice_bounds-derive-end
-slice_bounds-derive-end c = simp length-take (omega arith)
 
 pub returns : goal.returns
 returns c =

@@ -1,10 +1,5 @@
 use Rattle.schedule.proofs.Derivations.{verify_is}
-use lib.ListN.{length-take}
-use native.Mathlib.Omega.{arith}
 use Rattle.traffic.proofs.verify_data.Goals as goal
-
-pub slice_bounds-mac-end : goal.slice_bounds-mac-end
-slice_bounds-mac-end c = simp length-take (omega arith)
 
 pub returns : goal.returns
 returns c =

@@ -4,4 +4,4 @@ use Rattle.complete_stage.proofs.CompleteStep.{completed}
 use Rattle.complete_stage.proofs.complete.complete_kept.Goals as goal
 
 pub returns : goal.returns
-returns c b d r e y ed em = completed b c.args.s (good r) (complete_taken b y).0 e ed em c.zeros48-none.ensures
+returns c b d r e y ed em = completed b c.args.s (good r) (complete_taken b y).0 e ed em c.zeros-none.ensures

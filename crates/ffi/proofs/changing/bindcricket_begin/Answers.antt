@@ -2,23 +2,10 @@ use native.Mathlib.Omega.{arith}
 use mathlib.Core.List.{[]}
 use Rattle.book.specs.Call.Call.{Begin}
 use Rattle.lent.proofs.Calls.{wrong_size_lem, changing}
-use borrow.Author.Rules.{rules}
 use Rattle.ffi.proofs.changing.bindcricket_begin.Goals as goal
 
 pub returns-then-session-ne-SESSION_BYTES : goal.returns-then-session-ne-SESSION_BYTES
 returns-then-session-ne-SESSION_BYTES c = wrong_size_lem c.args.session.now (Begin _ _ c.args.psk.now) [] c.if-session-ne-SESSION_BYTES.true
-
-pub decode-requires : goal.decode-requires
-decode-requires c = search rules
-
-pub begin-done-requires : goal.begin-done-requires
-begin-done-requires c = search rules
-
-pub store-requires : goal.store-requires
-store-requires c = search rules
-
-pub shape_of-session : goal.shape_of-session
-shape_of-session c = search rules
 
 pub returns : goal.returns
 returns c =

@@ -2,23 +2,10 @@ use native.Mathlib.Omega.{arith}
 use Rattle.book.specs.Call.Call.{Binder}
 use Rattle.lent.proofs.Calls.{wrong_size_lem}
 use Rattle.ffi.proofs.Calls.{writing}
-use borrow.Author.Rules.{rules}
 use Rattle.ffi.proofs.reading.bindcricket_binder.Goals as goal
 
 pub returns-then-session-ne-SESSION_BYTES : goal.returns-then-session-ne-SESSION_BYTES
 returns-then-session-ne-SESSION_BYTES c = wrong_size_lem c.args.session.now (Binder c.args.hello.now c.args.out.now) c.args.out.now c.if-session-ne-SESSION_BYTES.true
-
-pub decode-requires : goal.decode-requires
-decode-requires c = search rules
-
-pub binder-requires : goal.binder-requires
-binder-requires c = search rules
-
-pub report-requires : goal.report-requires
-report-requires c = search rules
-
-pub shape_of-out : goal.shape_of-out
-shape_of-out c = search rules
 
 pub returns : goal.returns
 returns c =

@@ -1,12 +1,12 @@
 use mathlib.Core.Bool.{Bool, true, false, cond}
-use mathlib.Core.Path.{◌≡◌, ap}
+use mathlib.Core.Path.{◌≡◌, sym, ap, ◌∙◌}
 use mir.Val.{bool_byte}
 use native.Mathlib.Omega.{arith}
 use mathlib.Core.List.{[]}
 use Rattle.book.specs.Call.Call.{Check}
+use Rattle.refusal.specs.Verdict.{Verdict, verdict_number, says_yes}
 use Rattle.lent.proofs.Calls.{wrong_size_lem}
 use Rattle.ffi.proofs.Calls.{saying}
-use borrow.Author.Rules.{rules}
 use Rattle.ffi.proofs.reading.bindcricket_check.Goals as goal
 
 told : (b : Bool) {d : Bool} → b ≡ d → bool_byte b ≡ cond d 1 0
@@ -16,22 +16,13 @@ told false e = ap (λ (x : Bool). cond x 1 0) e
 pub returns-then-session-ne-SESSION_BYTES : goal.returns-then-session-ne-SESSION_BYTES
 returns-then-session-ne-SESSION_BYTES c = wrong_size_lem c.args.session.now (Check _ c.args.received.now) [] c.if-session-ne-SESSION_BYTES.true
 
-pub decode-requires : goal.decode-requires
-decode-requires c = search rules
-
-pub check-verdict-requires : goal.check-verdict-requires
-check-verdict-requires c = search rules
-
-pub is_yes-requires : goal.is_yes-requires
-is_yes-requires c = search rules
-
-pub overflow_cast-yes : goal.overflow_cast-yes
-overflow_cast-yes c = search rules
-
-pub number-requires : goal.number-requires
-number-requires c = search rules
-
-pub returns : goal.returns
-returns c =
+pub returns-in-Ok : goal.returns-in-Ok
+returns-in-Ok c =
     saying c.args.session.now (Check _ c.args.received.now) c.if-session-ne-SESSION_BYTES.false (λ i. omega (arith, c.shared_slice_known-1.given i))
-    c.decode.ensures c.check-verdict.result c.number.ensures (told _ c.is_yes.ensures) c.check-verdict.ensures
+    c.decode.ensures c.check.result (sym (ap verdict_number c.in-Ok.is)) (told _ (sym (ap says_yes c.in-Ok.is))) c.check.ensures
+
+pub returns-in-Err : goal.returns-in-Err
+returns-in-Err c =
+    saying c.args.session.now (Check _ c.args.received.now) c.if-session-ne-SESSION_BYTES.false (λ i. omega (arith, c.shared_slice_known-1.given i))
+    c.decode.ensures c.check.result (c.number.ensures ∙ sym (ap verdict_number c.in-Err.is))
+    (sym (ap (λ (v : Verdict). cond (says_yes v) 1 0) c.in-Err.is)) c.check.ensures

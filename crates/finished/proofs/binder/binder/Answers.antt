@@ -1,18 +1,14 @@
+use Rattle.std.proofs.Common.{refl, rules}
 use Rattle.outputs.proofs.Answers.{binder_refused, binder_done}
 use Rattle.finished.proofs.binder.binder.Goals as goal
 
-pub returns-then-number-ne0 : goal.returns-then-number-ne0
-returns-then-number-ne0 c =
+pub returns-in_err-judge_binder : goal.returns-in_err-judge_binder
+returns-in_err-judge_binder c =
     let a = c.args in
-    binder_refused a.s a.hello.now a.out.now c.binder_number-number.ensures c.decided.result
-    c.if-number-ne0.true c.decided.ensures
+    binder_refused a.s a.hello.now a.out.now c.in_err-judge_binder.field-0.0 c.in_err-judge_binder.ensures (search rules)
 
 pub returns : goal.returns
 returns c =
     let a = c.args in
-    binder_done a.s a.hello.now a.out.now
-    c.binder_number-number.ensures
-    c.decided-2.result c.if-number-ne0.false
-    c.messages_hash-hash.ensures
-    c.verify_data-value.ensures c.write_value-count.ensures
-    c.decided-2.ensures
+    binder_done a.s a.hello.now a.out.now c.in_ok-judge_binder.ensures c.messages_hash-hash.ensures
+    c.verify_data-value.ensures c.write_value-count.ensures refl

@@ -1,33 +1,18 @@
-use mathlib.Core.Path.{refl}
-use native.Mathlib.Omega.{arith}
-use Rattle.finished.proofs.Comparing.{other_length, same_turn, same-done}
+use Prim.Native.Nat.{ℕ}
+use mathlib.Core.Path.{ap, ◌∙◌}
+use lib.Dec.{eqb}
+use Rattle.std.proofs.Common.{rules}
+use Rattle.std.proofs.lemmas.Iterator.{YieldsList-from_slice, YieldsList-from_zip}
+use Rattle.std.proofs.lemmas.Iterator.Consumers.{fold_from_yields_List}
+use Rattle.finished.proofs.Comparing.{other_length, differing, same_fold}
 use Rattle.finished.proofs.check.is_same.Goals as goal
 
 pub returns-then-a-b : goal.returns-then-a-b
 returns-then-a-b c = other_length _ _ c.if-a-b.true
 
-pub loop-i-init : goal.loop-i-init
-loop-i-init c = (omega arith, c.if-a-b.false, refl)
-
-pub bounds-a-i : goal.bounds-a-i
-bounds-a-i c = omega arith
-
-pub bounds-b-i : goal.bounds-b-i
-bounds-b-i c = omega arith
-
-pub overflow_add-i : goal.overflow_add-i
-overflow_add-i c = omega arith
-
-pub loop-i-smaller : goal.loop-i-smaller
-loop-i-smaller c = omega arith
-
-pub loop-i-preserved : goal.loop-i-preserved
-loop-i-preserved c = let l = c.loop-i in (
-  omega arith,
-  l.invariant.1,
-  same_turn _ _ l.bits l.i l.invariant.1
-      (omega arith) l.invariant.2,
-)
-
 pub returns : goal.returns
-returns c = let l = c.loop-i in same-done _ _ l.bits l.i l.invariant.1 (omega arith) l.invariant.2
+returns c =
+    ap (λ (n : ℕ). eqb n 0)
+    (fold_from_yields_List _ differing 0 c.fold-bits.result c.fold-bits.ensures.ran
+    (YieldsList-from_zip (YieldsList-from_slice c.args.a.now cc) (YieldsList-from_slice c.args.b.now cc)) (λ a x b q k. search rules))
+    ∙ same_fold 0 c.args.a.now c.args.b.now c.if-a-b.false

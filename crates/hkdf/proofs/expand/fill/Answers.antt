@@ -1,54 +1,47 @@
-use Rattle.hkdf.proofs.Filling.{start, start-bytes, next_small, turn, turn-bytes, done}
+use Rattle.hkdf.proofs.Filling.{starts_within, ends_within, next_place, start, start-bytes, turn, turn-bytes, done}
 use Rattle.hkdf.proofs.Labels.{block_under}
 use Rattle.hkdf.proofs.Values.{some_hash}
-use mathlib.Core.Path.{◌≡◌}
-use mathlib.Core.List.{◌++◌}
-use lib.ListN.{length, take, length-take}
-use Prim.Native.Nat.{◌+◌, ◌≤◌}
-use native.Mathlib.Omega.{arith}
+use Rattle.std.proofs.Common.{◌≡◌, ℕ, ◌+◌, ◌*◌, ◌<◌, ◌≤◌, min, length, take, ap, zero-mul, arith, length-take}
+use Rattle.std.specs.List.{flat_map}
 use Rattle.hkdf.proofs.expand.fill.Goals as goal
 
-pub loop-at-init : goal.loop-at-init
-loop-at-init c =
+pub div_ceil-i-end-requires : goal.div_ceil-i-end-requires
+div_ceil-i-end-requires c = omega (arith, some_hash c.args.suite, c.hash_len-h.ensures.0)
+
+pub loop-i-init : goal.loop-i-init
+loop-i-init c =
     let p = c.requires in
-    (start _ _ _ _ c.hash_len-h.ensures.0 c.zeros48-t.ensures, λ secret ei eo. start-bytes _ _ _ _ c.zeros48-t.ensures, p.0, p.1, p.2)
+    let z : min (0 * c.hash_len-h.result) c.args.asked ≡ 0 = omega (arith, zero-mul c.hash_len-h.result) in
+    (rw z (start _ _ _ _ c.hash_len-h.ensures.0 c.zeros-t.ensures), λ secret ek. rw z (start-bytes _ _ _ _ c.zeros-t.ensures), p.0, p.1, p.2)
 
-pub overflow_add-i : goal.overflow_add-i
-overflow_add-i c = let i = c.loop-at.invariant in omega (arith, next_small _ _ _ _ _ _ _ _ _ i.0 i.3 c.loop-at-test.true)
-
-pub slice_bounds-t-end : goal.slice_bounds-t-end
-slice_bounds-t-end c = omega (arith, c.loop-at.invariant.0)
-
-pub slice_bounds-next_block-end : goal.slice_bounds-next_block-end
-slice_bounds-next_block-end c = let f = c.loop-at.invariant.0 in simp length-take (omega (arith, f.small, f.wide))
-
-pub slice_bounds-put-end : goal.slice_bounds-put-end
-slice_bounds-put-end c = simp length-take (omega arith)
-
-pub loop-at-smaller : goal.loop-at-smaller
-loop-at-smaller c =
-    let l = c.loop-at in
-    let n = some_hash c.args.suite in
-    omega
-    (arith, c.least-n.ensures, l.invariant.0.hash, c.loop-at-test.true)
-
-pub loop-at-preserved : goal.loop-at-preserved
-loop-at-preserved c =
+pub loop-i-preserved : goal.loop-i-preserved
+loop-i-preserved c =
     let a = c.args in
-    let l = c.loop-at in
+    let l = c.loop-i in
     let i = l.invariant in
+    let h = c.hash_len-h.result in
+    let some = some_hash a.suite in
+    let n = c.min-n.result in
     let p = take l.size l.t in
-    let info = a.a.now ++ a.b.now ++ a.c.now ++ a.d.now in
+    let info = flat_map (λ part. part.now) a.info.now in
     let w : length p ≤ 48 = simp length-take (omega (arith, i.0.small, i.0.wide)) in
-    let y = c.next_block-y in
-    let n : length y.result ≡ 48 = omega arith in
-    let less = c.least-n.ensures in
-    let lt = c.loop-at-test.true in
+    let y = c.next_block-t in
+    let wide : length y.result ≡ 48 = omega arith in
+    let less = c.min-n.ensures in
     let put = c.put.ensures.1 in
-    (turn _ _ _ _ _ _ _ _ _ i.0 _ _ _ i.4 lt less n put, λ secret ei eo. turn-bytes _ _ _ _ _ _ _ _ _ _ _ i.0 (i.1 secret ei eo) _ _ _ i.4 lt less (block_under a.suite secret a.inner.now a.outer.now p info (l.i + 1) w i.2 ei eo y.ensures) put, i.2, i.3, i.4)
-
-pub shape_of-out : goal.shape_of-out
-shape_of-out c = c.loop-at.invariant.0.long
+    let lt : l.i * h < a.asked = starts_within h a.asked l.i (omega (arith, c.hash_len-h.ensures.0)) c.div_ceil-i-end.ensures c.loop-i-test.true in
+    let e : min (l.i * h) a.asked ≡ l.i * h = omega arith in
+    let g : l.i * h + n ≡ min ((l.i + 1) * h) a.asked = next_place h a.asked l.i n lt less in
+    let f = rw e at i.0 in
+    (rw g at (turn _ _ _ _ _ _ _ _ _ f _ _ _ i.4 lt less wide put), λ secret ek. rw g at (turn-bytes _ _ _ _ _ _ _ _ _ _ _ f (rw e at (i.1 secret ek)) _ _ _ i.4 lt less (block_under a.suite secret p info (l.i + 1) w i.2 ek y.ensures) put), i.2, i.3, i.4)
 
 pub returns : goal.returns
-returns c = λ secret ei eo. let i = c.loop-at.invariant in done _ _ _ _ _ _ _ _ _ _ _ i.0 (i.1 secret ei eo) c.loop-at-test.false
+returns c = λ secret ek.
+    let l = c.loop-i in
+    let i = l.invariant in
+    let h = c.hash_len-h.result in
+    let some = some_hash c.args.suite in
+    let t = ends_within h c.args.asked (omega (arith, c.hash_len-h.ensures.0)) c.div_ceil-i-end.ensures in
+    let e : l.i ≡ c.div_ceil-i-end.result = omega arith in
+    let m = ap (λ (n : ℕ). n * h) e in
+    done _ _ _ _ _ _ _ _ _ _ _ i.0 (i.1 secret ek) (omega arith)

@@ -1,25 +1,17 @@
-use Rattle.hkdf.proofs.Calls.{call-refused, call-done, label_small, label-fits, length-expand_label}
-use lib.ListN.{length}
-use mathlib.Core.Path.{sym}
+use Rattle.std.proofs.Common.{length, sym, refl, rules}
+use Rattle.refusal.proofs.Laws.{answered-ok, answered-err}
+use Rattle.hkdf.proofs.Calls.{label-fits, length-expand_label}
 use Rattle.hkdf.proofs.label.expand_label.Goals as goal
 
-pub returns-then-number-ne0 : goal.returns-then-number-ne0
-returns-then-number-ne0 c =
-    let a = c.args in
-    call-refused _ _ a.out.now
-    (label_small a.suite (length a.secret.now) (length a.label.now) (length a.context.now) a.asked (length a.out.now))
-    c.expand_label_number-number.ensures c.if-number-ne0.true c.decided.ensures
+pub returns-in_err-expand_label : goal.returns-in_err-expand_label
+returns-in_err-expand_label c =
+    answered-err _ c.args.out.now c.in_err-expand_label.field-0.0 c.in_err-expand_label.ensures (search rules)
 
 pub fill_label-requires : goal.fill_label-requires
 fill_label-requires c =
     let a = c.args in
-    label-fits a.suite (length a.secret.now) (length a.label.now) (length a.context.now) a.asked
-    (length a.out.now) c.expand_label_number-number.ensures c.if-number-ne0.false
+    label-fits a.suite (length a.secret.now) (length a.label.now) (length a.context.now) a.asked (length a.out.now) c.in_ok-expand_label.ensures
 
 pub returns : goal.returns
 returns c =
-    let a = c.args in
-    call-done _ _ a.out.now
-    (label_small a.suite (length a.secret.now) (length a.label.now) (length a.context.now) a.asked (length a.out.now))
-    c.expand_label_number-number.ensures c.if-number-ne0.false (sym (length-expand_label _ _ _ _ _))
-    c.fill_label.ensures c.decided-2.ensures
+    answered-ok _ c.args.out.now c.in_ok-expand_label.ensures refl (sym (length-expand_label _ _ _ _ _)) c.fill_label.ensures

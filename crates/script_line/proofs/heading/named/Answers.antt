@@ -1,8 +1,20 @@
-use mathlib.Core.Path.{sym, ◌∙◌}
+use Rattle.std.proofs.Common.{◌≡◌, codes, rules, arith}
+use Rattle.std.proofs.lemmas.Slice.Eq.{text_from_reads}
+use Rattle.script_line.specs.Headings.{named_of}
 use Rattle.script_line.proofs.heading.named.Goals as goal
 
-pub returns-then-same : goal.returns-then-same
-returns-then-same c = rw (sym c.same.ensures ∙ c.if-same.true)
+pub returns-in-update : goal.returns-in-update
+unfolding named_of
+returns-in-update c = let e : c.args.name.now ≡ codes "update" = text_from_reads _ _ (omega arith) (search rules) in rw e (search rules)
 
-pub returns-else-same : goal.returns-else-same
-returns-else-same c = rw (sym c.same.ensures ∙ c.if-same.false)
+pub returns-in-complete : goal.returns-in-complete
+unfolding named_of
+returns-in-complete c = let e : c.args.name.now ≡ codes "complete" = text_from_reads _ _ (omega arith) (search rules) in rw e (search rules)
+
+pub returns-in-handshake : goal.returns-in-handshake
+unfolding named_of
+returns-in-handshake c = let e : c.args.name.now ≡ codes "handshake" = text_from_reads _ _ (omega arith) (search rules) in rw e (search rules)
+
+pub returns-in-application : goal.returns-in-application
+unfolding named_of
+returns-in-application c = let e : c.args.name.now ≡ codes "application" = text_from_reads _ _ (omega arith) (search rules) in rw e (search rules)

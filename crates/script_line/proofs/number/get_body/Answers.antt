@@ -1,9 +1,10 @@
-use Rattle.script_line.proofs.Fields.{body-dash, body_hex}
-use mathlib.Core.Path.{sym, ◌∙◌}
+use Rattle.script_line.proofs.Fields.{body_dash, body_hex}
+use Rattle.std.specs.Str.{bytes_eq}
+use mathlib.Core.Path.{sym, ap, ◌∙◌}
 use Rattle.script_line.proofs.number.get_body.Goals as goal
 
-pub returns-then-same : goal.returns-then-same
-returns-then-same c = body-dash _ _ _ (sym c.if-same.true ∙ c.same.ensures)
+pub returns-then-eq : goal.returns-then-eq
+returns-then-eq c = body_dash _ _ _ (sym c.if-eq.true ∙ c.eq.ensures ∙ ap (bytes_eq c.args.s.now) c.as_slice.ensures)
 
 pub returns : goal.returns
-returns c = body_hex _ _ _ (sym c.if-same.false ∙ c.same.ensures) c.get_hex.ensures.0 c.get_hex.ensures.1
+returns c = body_hex _ _ _ (sym c.if-eq.false ∙ c.eq.ensures ∙ ap (bytes_eq c.args.s.now) c.as_slice.ensures) c.get_hex.ensures.0 c.get_hex.ensures.1

@@ -1,12 +1,18 @@
-use Rattle.script_line.proofs.Words.{word-start, word-turn, word_last}
+use Rattle.script_line.proofs.Words.{word_next, word_last}
+use Rattle.script_line.specs.Words.{word}
+use Prim.Native.Nat.{ℕ, suc, ◌+◌, ◌-◌}
 use native.Mathlib.Omega.{arith}
+use mathlib.Core.Path.{◌≡◌, ap, ◌∙◌}
 use Rattle.script_line.proofs.word.word.Goals as goal
 
-pub loop-i-init : goal.loop-i-init
-loop-i-init c = (omega arith, omega arith, word-start _ _)
-
-pub loop-i-preserved : goal.loop-i-preserved
-loop-i-preserved c = let l = c.loop-i in let p = c.skip_spaces-start.ensures in (omega arith, c.field_end-at.ensures.2, word-turn _ _ _ _ _ _ p.0 p.1 c.field_end-at.ensures.0 (omega arith) l.invariant.2)
+pub loop-preserved : goal.loop-preserved
+loop-preserved c =
+    let l = c.loop in
+    let n : suc (c.args.k - (l.counter + 1)) ≡ c.args.k - l.counter = omega arith in
+    ap (word (c.args.k - (l.counter + 1))) c.split_word.ensures.1 ∙ word_next _ _ ∙ ap (λ (m : ℕ). word m l.rest.now) n ∙ l.invariant
 
 pub returns : goal.returns
-returns c = let l = c.loop-i in let p = c.skip_spaces-from.ensures in word_last _ _ _ _ _ _ p.0 p.1 c.field_end-to.ensures.0 (omega arith) l.invariant.2
+returns c =
+    let l = c.loop in
+    let n : 0 ≡ c.args.k - l.counter = omega arith in
+    c.split_word-2.ensures.0 ∙ word_last _ ∙ ap (λ (m : ℕ). word m l.rest.now) n ∙ l.invariant

@@ -1,10 +1,7 @@
 use Rattle.suite_hash.proofs.Turns.{compress_is}
 use Rattle.suite_hash.proofs.Sound.{sound, block_len}
-use Rattle.std.proofs.Common.{◌∙◌, arith, length-take}
+use Rattle.std.proofs.Common.{◌∙◌}
 use Rattle.suite_hash.proofs.blocks.compress.Goals as goal
-
-pub slice_bounds-fold-end : goal.slice_bounds-fold-end
-slice_bounds-fold-end c = simp length-take (omega arith)
 
 pub returns : goal.returns
 returns c =

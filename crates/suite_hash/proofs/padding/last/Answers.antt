@@ -3,13 +3,8 @@ use Rattle.suite_hash.proofs.Sound.{sound, block_len}
 use Rattle.std.proofs.Common.{◌∙◌, arith}
 use Rattle.suite_hash.proofs.padding.last.Goals as goal
 
-pub overflow_sub-b : goal.overflow_sub-b
-overflow_sub-b c =
-    let o = (sound c.args.suite).some in
-    omega (arith, c.block_len-b.ensures.0 ∙ block_len c.args.suite)
-
 pub returns : goal.returns
 returns c =
     let a = c.args in
-    last_is _ (sound _) a.s.now a.block.now a.bits (omega arith) (omega arith)
+    last_is _ (sound _) a.h.now.state a.h.now.block a.bits (omega arith) (omega arith)
     (c.block_len-b.ensures.0 ∙ block_len _) c.put.ensures.1 c.compress.ensures

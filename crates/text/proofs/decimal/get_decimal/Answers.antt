@@ -1,27 +1,28 @@
 use Rattle.text.proofs.Numbers.{read_next, read_none, read_large, read_end, read_some, read_empty}
 use native.Mathlib.Omega.{arith}
-use mathlib.Core.Path.{◌∙◌}
+use borrow.Author.Tests.{eqb-true, eqb-false}
+use mathlib.Core.Path.{sym, ◌∙◌}
 use Rattle.text.proofs.decimal.get_decimal.Goals as goal
 
-pub returns-then-s-eq0 : goal.returns-then-s-eq0
-returns-then-s-eq0 c = read_empty c.args.s.now c.if-s-eq0.true
+pub returns-then-is_empty : goal.returns-then-is_empty
+returns-then-is_empty c = (read_empty c.args.s.now (eqb-true _ _ (sym c.is_empty.ensures ∙ c.if-is_empty.true)), tt)
 
-pub loop-i-init : goal.loop-i-init
-loop-i-init c = (omega arith, omega arith, read_some c.args.s.now c.if-s-eq0.false)
+pub loop-c-init : goal.loop-c-init
+loop-c-init c = (omega arith, read_some c.args.s.now (eqb-false _ _ (sym c.is_empty.ensures ∙ c.if-is_empty.false)))
 
-pub returns-then-d-eq10 : goal.returns-then-d-eq10
-returns-then-d-eq10 c =
-    read_none c.args.s.now _ _ _ (omega arith)
-    c.value-d.ensures.0 c.if-d-eq10.true ∙ c.loop-i.invariant.2
+pub returns-in_err-value : goal.returns-in_err-value
+returns-in_err-value c =
+    rw (c.from_residual.ensures)
+    (read_none c.args.s.now _ _ (omega arith) (sym c.in_err-value.ensures.0) ∙ c.loop-c.invariant.1, tt)
 
 pub returns-then-n-gt-MAX : goal.returns-then-n-gt-MAX
 returns-then-n-gt-MAX c =
-    read_large c.args.s.now _ _ _ (omega arith)
-    c.value-d.ensures.0 c.if-d-eq10.false c.if-n-gt-MAX.true ∙ c.loop-i.invariant.2
+    (read_large c.args.s.now _ _ (omega arith) (sym c.in_ok-value.ensures.0) (rw c.from.ensures at c.if-n-gt-MAX.true) ∙ c.loop-c.invariant.1, tt)
 
-pub loop-i-preserved : goal.loop-i-preserved
-loop-i-preserved c =
-    (omega arith, omega arith, read_next c.args.s.now _ _ _ (omega arith) c.value-d.ensures.0 c.if-d-eq10.false (omega arith) ∙ c.loop-i.invariant.2)
+pub loop-c-preserved : goal.loop-c-preserved
+loop-c-preserved c =
+    rw c.from.ensures
+    (omega arith, read_next c.args.s.now _ _ (omega arith) (sym c.in_ok-value.ensures.0) (omega arith) ∙ c.loop-c.invariant.1)
 
 pub returns : goal.returns
-returns c = read_end c.args.s.now _ _ c.loop-i-test.false ∙ c.loop-i.invariant.2
+returns c = (read_end c.args.s.now _ _ c.loop-c-test.false ∙ c.loop-c.invariant.1, c.loop-c.invariant.0)

@@ -1,8 +1,0 @@
-use borrow.Author.Tests.{eq-eqb, ne_eqb}
-use Rattle.complete_stage.proofs.update.made_by.Goals as goal
-
-pub returns-then-side-eq1 : goal.returns-then-side-eq1
-returns-then-side-eq1 c = rw (eq-eqb _ _ c.if-side-eq1.true)
-
-pub returns-else-side-eq1 : goal.returns-else-side-eq1
-returns-else-side-eq1 c = rw (ne_eqb _ _ c.if-side-eq1.false)

@@ -1,7 +1,0 @@
-use Rattle.std.proofs.Common.{refl}
-use Rattle.fips180.specs.Words.{rotr}
-use Rattle.compress256.proofs.functions.rotr.Goals as goal
-
-pub returns : goal.returns
-unfolding rotr
-returns c = refl

@@ -1,7 +1,0 @@
-use Rattle.std.proofs.Common.{refl}
-use Rattle.fips180.specs.Words.{ch}
-use Rattle.compress384.proofs.functions.ch.Goals as goal
-
-pub returns : goal.returns
-unfolding ch
-returns c = refl

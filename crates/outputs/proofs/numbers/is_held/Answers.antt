@@ -1,9 +1,0 @@
-use Rattle.outputs.proofs.numbers.is_held.Goals as goal
-
-pub returns : goal.returns
-returns c =
-    rw (
-      c.is_application_held-application.ensures,
-      c.is_handshake_held-handshake.ensures,
-      c.is_early_held-early.ensures,
-    )

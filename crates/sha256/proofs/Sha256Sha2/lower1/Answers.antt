@@ -1,0 +1,7 @@
+use Rattle.fips180.specs.Words.{rotr, rotations_shift, shr}
+use Rattle.fips180.specs.Variant.{sha256, σ1}
+use Rattle.sha256.proofs.Sha256Sha2.lower1.Goals as goal
+
+pub returns : goal.returns
+unfolding σ1 rotations_shift rotr shr sha256
+returns c = cc

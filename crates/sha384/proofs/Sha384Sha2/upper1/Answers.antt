@@ -1,0 +1,7 @@
+use Rattle.fips180.specs.Words.{rotr, rotations}
+use Rattle.fips180.specs.Variant.{sha384, Σ1}
+use Rattle.sha384.proofs.Sha384Sha2.upper1.Goals as goal
+
+pub returns : goal.returns
+unfolding Σ1 rotations rotr sha384
+returns c = cc
