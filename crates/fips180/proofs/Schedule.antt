@@ -1,6 +1,6 @@
 -- Laws of a round and of the message schedule, once for every variant.
 use mathlib.Core.Path.{◌≡◌, sym, ◌∙◌}
-use mathlib.Core.List.{List, [], ◌∷◌}
+use mathlib.Core.List.{List, []}
 use Prim.Native.Nat.{ℕ, zero, suc, ◌+◌, ◌-◌, ◌%◌, ◌≤◌, ◌<◌}
 use native.Mathlib.Nat.{add-suc, add-zero}
 use native.Mathlib.Numerals.{add-one}
@@ -8,9 +8,8 @@ use native.Mathlib.Decide.{dec_le}
 use native.Mathlib.Omega.{arith}
 use lib.ListN.{length, get_or, set, length-append, length-set, get_or-append}
 use lib.Seq.{get_or-set_same, get_or-set_other, get_or_at}
-use Rattle.fips180.specs.Words.{plus}
 use Rattle.fips180.specs.Variant.{Variant}
-use Rattle.fips180.specs.Hash.{t1, t2, round, rounds, next_word, schedule, W}
+use Rattle.fips180.specs.Hash.{round, rounds, next_word, schedule, W}
 
 module _ (v : Variant) where
   module _ (m : List ℕ) (sixteen : length m ≡ 16) where
