@@ -6,7 +6,7 @@ use super::journals::{make_read, make_write};
 use super::lower::{
     make_derive_secret, make_expand, make_expand_label, make_extract, make_hash, make_hmac,
 };
-use super::output::say_session;
+use super::output::{Line, say_session};
 use super::payload::Payload;
 use super::reads::{make_binder, make_check, make_export, make_finished, make_keys};
 use super::reply::Reply;
@@ -70,7 +70,13 @@ impl fmt::Display for Ending {
     }
 }
 
-fn run_all(stdout: Stdout, s: &mut Session, input: &[u8], out: &mut [u8]) -> io::Result<Ending> {
+fn run_all(
+    stdout: Stdout,
+    line: &mut Line,
+    s: &mut Session,
+    input: &[u8],
+    out: &mut [u8],
+) -> io::Result<Ending> {
     let mut records = 0;
     let mut rest = input;
     // No `for`: each turn goes on by a record's own length.
@@ -82,7 +88,12 @@ fn run_all(stdout: Stdout, s: &mut Session, input: &[u8], out: &mut [u8]) -> io:
         let Some(reply) = make(s, kind, payload, out) else {
             return Ok(Ending::Bad(records));
         };
-        println!(stdout; "{records} {kind} {reply}")?;
+        match reply {
+            Reply::Lent(_, lent) => {
+                line.say(stdout, format_args!("{records} {kind} {reply}"), lent)?;
+            }
+            _ => println!(stdout; "{records} {kind} {reply}")?,
+        }
         rest = behind;
     }
     Ok(Ending::End(records))
@@ -90,7 +101,8 @@ fn run_all(stdout: Stdout, s: &mut Session, input: &[u8], out: &mut [u8]) -> io:
 
 pub(crate) fn run(stdout: Stdout, input: &[u8], out: &mut [u8]) -> io::Result<()> {
     let mut session = fresh();
-    let ending = run_all(stdout, &mut session, input, out)?;
+    let mut line = Line::new();
+    let ending = run_all(stdout, &mut line, &mut session, input, out)?;
     println!(stdout; "{ending}")?;
-    say_session(stdout, &session)
+    say_session(stdout, &mut line, &session)
 }

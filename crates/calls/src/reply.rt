@@ -1,7 +1,6 @@
 // What a record's call comes to, and how it is printed.
-use super::output::Hex;
 use journal::record::{Reading, kind_of};
-use refusal::verdict::Verdict;
+use refusal::verdict::{Verdict, is_yes};
 use refusal::{Answer, Refusal};
 use std::fmt;
 
@@ -17,7 +16,8 @@ pub(crate) enum Reply<'a> {
     Read(Reading),
 }
 
-// The answer's number and the count of bytes written, and what else the call gives back.
+// The answer's number and the count of bytes written, and what else the call gives back, but for the output: its bytes
+// stand behind.
 impl fmt::Display for Reply<'_> {
     fn fmt<W: fmt::Write>(&self, f: &mut fmt::Formatter<W>) -> fmt::Result {
         match *self {
@@ -25,15 +25,14 @@ impl fmt::Display for Reply<'_> {
                 let number = refusal::number(answer);
                 write!(f, "{number} 0")
             }
-            Reply::Lent(answer, lent) => {
+            Reply::Lent(answer, _) => {
                 let number = refusal::number(answer);
                 let count = refusal::count(answer);
-                let lent = Hex(lent);
-                write!(f, "{number} {count} {lent}")
+                write!(f, "{number} {count}")
             }
             Reply::Judged(verdict) => {
                 let number = refusal::number(verdict);
-                let word = if verdict == Ok(true) { "yes" } else { "no" };
+                let word = if is_yes(verdict) { "yes" } else { "no" };
                 write!(f, "{number} 0 {word}")
             }
             Reply::Read(

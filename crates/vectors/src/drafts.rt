@@ -2,7 +2,7 @@
 // print differs or same, or the refusal. Document 002's exporter lacks the inner Derive-Secret; document 003 feeds each
 // chain secret straight into the next, and takes zeros as the key of the last step.
 //   draft-export NAME LENGTH LABEL CONTEXT; draft-handshake GROUP 0 SECRET; draft-master
-use super::output::{Outcome, Value};
+use super::output::{Outcome, Value, Word};
 use application_stage::application;
 use extract::extract;
 use handshake_stage::handshake;
@@ -15,11 +15,11 @@ use suite::Suite;
 
 // Compares what the session's call and the draft's made.
 fn compare(value: &[u8], draft: &[u8]) -> Outcome<'static> {
-    Ok(if value == draft {
-        Value::Same
+    Ok(Value::Word(if value == draft {
+        Word::Same
     } else {
-        Value::Differs
-    })
+        Word::Differs
+    }))
 }
 
 // Expand-Label over the exporter's secret itself.

@@ -2,7 +2,7 @@
 ghost use Rattle.std.specs.Prelude.{◌≡◌, length};
 
 use super::fields::{bytes, cut, decimal, four_digits};
-use super::output::{Fault, Outcome, Value};
+use super::output::{Fault, Outcome, Value, Word};
 use refusal::{Refusal, refuse_if};
 use suite::Suite;
 use suite_hash::running::Running;
@@ -91,6 +91,6 @@ pub(crate) fn hash<'a>(fields: &[u8], room: &'a mut [u8; 512]) -> Outcome<'a> {
         buffer::put(room, 0, digest);
         Ok(Value::Bytes(&room[..h]))
     } else {
-        Ok(Value::Differs)
+        Ok(Value::Word(Word::Differs))
     }
 }

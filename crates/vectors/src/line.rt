@@ -3,7 +3,7 @@ use super::arguments::Arguments;
 use super::fields::cut;
 use super::hashing::hash;
 use super::names::Operation;
-use super::output::{Fault, Outcome, Value};
+use super::output::{Fault, Outcome, Value, Word, say};
 use session::{Session, fresh};
 use std::io;
 use std::io::{Print, Stdout};
@@ -26,7 +26,7 @@ fn value<'a>(
         Operation::Change(change) => {
             let given = Arguments::some(fields, &mut x, &mut y).ok_or(Fault::BadLine)?;
             *session = change.call(*session, given)?;
-            Ok(Value::Done)
+            Ok(Value::Word(Word::Done))
         }
         Operation::Reading(reading) => {
             let given = Arguments::some(fields, &mut x, &mut y).ok_or(Fault::BadLine)?;
@@ -40,10 +40,7 @@ fn answer(stdout: Stdout, session: &mut Session, line: &[u8]) -> io::Result<()> 
     let (operation, fields) = cut(rest);
     let mut room = [0u8; 512];
     stdout.write_all(name)?;
-    match value(session, operation, fields, &mut room) {
-        Ok(value) => println!(stdout; " {value}"),
-        Err(fault) => println!(stdout; " {fault}"),
-    }
+    say(stdout, value(session, operation, fields, &mut room))
 }
 
 pub(crate) fn answer_all(stdout: Stdout, text: &[u8]) -> io::Result<()> {

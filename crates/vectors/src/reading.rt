@@ -2,12 +2,13 @@
 //   place N; keys NAME; finished SIDE; check SIDE 0 RECEIVED; binder 0000 0 HELLO; export NAME LENGTH LABEL CONTEXT
 use super::arguments::Arguments;
 use super::drafts::{compare_export, compare_handshake, compare_master};
-use super::output::{Outcome, Value, front};
+use super::output::{Outcome, Value, Word, front};
 use finished::binder::binder;
 use finished::check::check;
 use finished::finished::finished;
 use outputs::export::export;
 use outputs::keys::keys;
+use refusal::verdict::is_yes;
 use session::Session;
 
 #[derive(Clone, Copy)]
@@ -61,8 +62,9 @@ impl Reading {
             Reading::Binder => binder(s, x, room)?,
             Reading::Export => export(s, name, x, y, length, room)?,
             Reading::Check => {
-                let yes = check(s, name, x)?;
-                return Ok(if yes { Value::Yes } else { Value::No });
+                let verdict = check(s, name, x);
+                verdict?;
+                return Ok(Value::Word(if is_yes(verdict) { Word::Yes } else { Word::No }));
             }
             Reading::DraftExport => return compare_export(s, name, length, x, y),
             Reading::DraftHandshake => return compare_handshake(s, number, x),
