@@ -24,7 +24,7 @@ pub(crate) fn change<'a>(session: &mut Session, kind: u16, p: Payload) -> Option
         Call::Application => application(s),
         Call::Complete => complete(s),
         Call::Update(side) => update(s, side),
-        Call::Close => Ok(close(s)),
+        Call::Close => Ok(close(s).0),
     };
     match next {
         Ok(after) => {

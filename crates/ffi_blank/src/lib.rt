@@ -31,6 +31,7 @@ pub extern "C" fn bindcricket_close(session: &mut [u8]) -> u8
     if session.len() != SESSION_BYTES {
         return NOT_A_SESSION;
     }
-    encode(close(decode(session)), session);
+    let (next, _) = close(decode(session));
+    encode(next, session);
     0
 }

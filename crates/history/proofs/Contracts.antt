@@ -117,8 +117,8 @@ update_promises s side r x = refl
 update_asks : (s : Session) (side : ℕ) → update-reads.Asked tt (s, (side, tt)) ≡ Unit {0}
 update_asks s side = refl
 
-close_promises : (s : Session) (r : Session)
-    (x : AtExit (ended_of 0 close-kinds.ps close-kinds.r) tt) → close-reads.Learnt tt (s, tt) r x ≡ Done s Close r (wrote (Ok 0) [])
+close_promises : (s : Session) (r : Session × ℕ)
+    (x : AtExit (ended_of 0 close-kinds.ps close-kinds.r) tt) → close-reads.Learnt tt (s, tt) r x ≡ Done s Close r.0 (wrote (Ok r.1) [])
 close_promises s r x = refl
 
 close_asks : (s : Session) → close-reads.Asked tt (s, tt) ≡ Unit {0}

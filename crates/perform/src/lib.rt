@@ -57,7 +57,7 @@ fn perform_one(s: Session, h: Header, first: &[u8], second: &[u8], out: &mut [u8
             let _ = export(s, h.small, first, second, h.asked, out);
             s
         }
-        _ => close(s),
+        _ => close(s).0,
     }
 }
 

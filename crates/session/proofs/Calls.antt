@@ -16,11 +16,12 @@ use Rattle.refusal.specs.Refusal as Refusal
 use Rattle.refusal.proofs.Laws.{number_of-some}
 use Rattle.session.specs.declared.Session.{Session}
 use Rattle.book.specs.Call.{Call, lent}
+use Rattle.book.specs.Call.Call.{Close}
 use Rattle.book.specs.Book.{Book, note}
 use Rattle.book.specs.Refusals.{number, Reached}
 use Rattle.session.specs.Values.{written, verdict}
 use Rattle.session.specs.Session.{session_of}
-use Rattle.session.specs.Promise.{Reply, reply, Done, after, plain}
+use Rattle.session.specs.Promise.{Reply, reply, Done, after, plain, wrote}
 use Rattle.book.proofs.Accepted.{next-refused, next-accepted}
 
 -- the reply of the book, when it refuses and when it accepts
@@ -123,3 +124,10 @@ module _ (s : Session) (c : Call) {n : ℕ} {r : Result Session Refusal} (none :
   accepted-plain {next} wrote says z er to =
       subst (λ (x : Result Session Refusal). Done s c (after s x) (plain x)) (sym er)
       (accepted-silent s c next none wrote says (λ b h p. sym (is b h p) ∙ sym z) to)
+
+-- Close lends no output, so what it counts is none: its reply is that of a call that writes nothing.
+pub closed_plain : {s next : Session} {k : ℕ} → Done s Close next (wrote (Ok k) []) → Done s Close next (plain (Ok next))
+unfolding lent
+closed_plain {s} {next} {k} d =
+    let none : k ≡ 0 = omega (arith, d.fits) in
+    subst (λ (n : ℕ). Done s Close next (wrote (Ok n) [])) none d

@@ -6,11 +6,11 @@ ghost use Rattle.session.specs.Promise.{Done, wrote};
 use super::{Session, fresh};
 use book::points::CLOSED;
 
-// Always accepted: everything becomes zero, the point Closed.
-pub fn close(s: Session) -> Session
-    ensures { Done s Call.Close result (wrote (Ok 0) []) }
+// Always accepted: everything becomes zero, the point Closed. The session after it, and the bytes written: none.
+pub fn close(s: Session) -> (Session, usize)
+    ensures { Done s Call.Close result.0 (wrote (Ok result.1) []) }
 {
     let mut next = fresh();
     next.point = CLOSED;
-    next
+    (next, 0)
 }

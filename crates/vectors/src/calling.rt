@@ -37,7 +37,7 @@ impl Change {
                 let side = u8::try_from(given.number).unwrap_or(u8::MAX);
                 complete_stage::update::update(s, side)
             }
-            Change::Close => Ok(close(s)),
+            Change::Close => Ok(close(s).0),
         }
     }
 }

@@ -3,6 +3,7 @@ use mathlib.Core.List.{[]}
 use Rattle.book.specs.Call.Call.{Close}
 use mathlib.Core.Path.{refl}
 use Rattle.std.proofs.Common.{Ok}
+use Rattle.session.proofs.Calls.{closed_plain}
 use Rattle.lent.proofs.Calls.{wrong_size_lem, changing}
 use Rattle.ffi_blank.proofs.bindcricket_close.Goals as goal
 
@@ -12,4 +13,4 @@ returns-then-session-ne-SESSION_BYTES c = wrong_size_lem c.args.session.now Clos
 pub returns : goal.returns
 returns c =
     changing c.args.session.now Close c.if-session-ne-SESSION_BYTES.false (λ i. omega (arith, c.slice_known-1.given i))
-    c.decode.ensures (Ok c.close.result) c.close.ensures refl c.encode.ensures
+    c.decode.ensures (Ok c.close.result.0) (closed_plain c.close.ensures) refl c.encode.ensures
