@@ -6,3 +6,4 @@ pub mod Cut
 pub mod Lengths
 pub mod Digest
 pub mod Folding
+pub mod Fronts

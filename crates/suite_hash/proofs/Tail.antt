@@ -1,6 +1,7 @@
 -- The end of a message as the code lays it out: once for every variant.
 use Rattle.std.proofs.Common.{◌≡◌, ℕ, suc, ◌+◌, ◌-◌, ◌*◌, ◌/◌, ◌%◌, ◌^◌, ◌<◌, ◌≤◌, List, [], ◌∷◌, ◌++◌, length, take, drop, set, sym, ap, ◌∙◌, append_assoc, append-nil, mod-lt, add-one, arith, length-append, length-take-le, take_all, take-suc-set, take_at}
 use lib.Seq.{take-append-add, set_at}
+use Rattle.std.specs.Int.{bytes_high_first}
 use Rattle.buffer.specs.Buffer.{zeros, overwrite, after}
 use Rattle.buffer.proofs.Laws.{after-fits, length-zeros, take-zeros, zeros-none, zeros-more, zeros-append}
 use Rattle.fips180.specs.Words.{bytes_of}
@@ -8,7 +9,7 @@ use Rattle.fips180.specs.Variant.{Variant}
 use Rattle.fips180.specs.Padding.{zeros_for, padding, words_of}
 use Rattle.fips180.specs.Hash.{compress}
 use Rattle.fips180.specs.Rows.{cut}
-use Rattle.fips180.proofs.Words.{bytes_wide}
+use Rattle.fips180.proofs.Words.{be_bytes, bytes_wide}
 use Rattle.fips180.proofs.Lengths.{length-bytes_of}
 use Rattle.suite_hash.specs.declared.running.Running.{Running}
 use Rattle.suite_hash.specs.Running.{absorbed}
@@ -50,6 +51,10 @@ front_ended held at m k long e h =
     let l : length (take at held) ≡ at = length-take-le at held (omega arith) in
     let n : m ≡ length (take at held) + suc k = omega arith in
     rw (n, take-append-add (take at held) (0x80 ∷ zeros (127 - at)) (suc k), take-zeros (127 - at) k (omega arith))
+
+-- the length in bits, in eight bytes
+pub bits_are : {bits : List ℕ} {x y : ℕ} → bits ≡ bytes_high_first 8 x → x ≡ y → bits ≡ bytes_of 8 y
+bits_are e h = e ∙ be_bytes 8 _ ∙ ap (bytes_of 8) h
 
 module _ (v : Variant) (ok : Sound v) where
   -- the last block, with the length in bits at its end

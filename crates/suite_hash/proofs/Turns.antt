@@ -31,8 +31,8 @@ compress_is v ok s p long es ey =
     ey ∙ rw es (fold_one v s (take v.block p) (positive v ok) (length-take-le v.block p (omega arith)))
 
 module _ (v : Variant) (ok : Sound v) (h : Running) (long : length h.block ≡ 128) (small : h.count < 2 ^ 64) (x : List ℕ)
-    {at b k count : ℕ} {block : List ℕ} (ea : at ≡ h.count % v.block) (es : b ≡ v.block) (ek : k ≡ min (b - at) (length x))
-    (ec : count ≡ (h.count + length x) % 2 ^ 64) (eb : block ≡ after at (take k x) h.block) where
+    {at b k count : ℕ} {block : List ℕ} (ea : at ≡ h.count % v.block) (es : b ≡ v.block) (ec : count ≡ (h.count + length x) % 2 ^ 64)
+    (eb : block ≡ after at (take k x) h.block) (ek : k ≡ min (b - at) (length x)) where
   length-first : length (take k x) ≡ k
   length-first = length-take-le k x (omega arith)
 

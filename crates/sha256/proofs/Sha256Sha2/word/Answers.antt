@@ -9,7 +9,7 @@ pub returns-in-Some : goal.returns-in-Some
 unfolding sha256
 returns-in-Some c l =
     let e = c.in-Some.ensures.cases.same ∙ take_all 4 c.args.b.now (omega arith) in
-    c.from_be_bytes.ensures ∙ ap (from_be_bytes w32) e ∙ word4 c.args.b.now l
+    omega (arith, ap (from_be_bytes w32) e ∙ word4 c.args.b.now l)
 
 pub returns-in-None : goal.returns-in-None
 unfolding sha256

@@ -1,16 +1,20 @@
-use Rattle.std.proofs.Common.{◌∙◌, ap, List, ℕ, get_or, arith}
+use Rattle.std.proofs.Common.{◌≡◌, ◌∙◌, List, ℕ, get_or, arith}
 use Rattle.fips180.specs.Variant.{sha384}
 use Rattle.fips180.proofs.Words.{be_bytes}
 use Rattle.sha384.proofs.Sha384Sha2.byte.Goals as goal
+
+-- the byte at an index, in equal lists at equal indices
+get_is : {l m : List ℕ} {i j x : ℕ} → x ≡ get_or l i 0 → l ≡ m → i ≡ j → x ≡ get_or m j 0
+get_is e f h = cc
 
 pub returns-in-Some : goal.returns-in-Some
 unfolding sha384
 returns-in-Some c =
     let b = c.to_be_bytes.ensures ∙ be_bytes 8 c.args.x in
-    c.in-Some.ensures.lookup.4 (omega arith) 0 ∙ ap (λ (l : List ℕ). get_or l c.args.j 0) b
+    get_is (c.in-Some.ensures.lookup.4 (omega arith) 0) b (omega arith)
 
 pub returns-in-None : goal.returns-in-None
 unfolding sha384
 returns-in-None c =
     let b = c.to_be_bytes.ensures ∙ be_bytes 8 c.args.x in
-    c.in-None.ensures.lookup.4 (omega arith) 0 ∙ ap (λ (l : List ℕ). get_or l c.args.j 0) b
+    get_is (c.in-None.ensures.lookup.4 (omega arith) 0) b (omega arith)

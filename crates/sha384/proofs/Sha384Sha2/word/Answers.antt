@@ -9,7 +9,7 @@ pub returns-in-Some : goal.returns-in-Some
 unfolding sha384
 returns-in-Some c l =
     let e = c.in-Some.ensures.cases.same ∙ take_all 8 c.args.b.now (omega arith) in
-    c.from_be_bytes.ensures ∙ ap (from_be_bytes w64) e ∙ word8 c.args.b.now l
+    omega (arith, ap (from_be_bytes w64) e ∙ word8 c.args.b.now l)
 
 pub returns-in-None : goal.returns-in-None
 unfolding sha384
