@@ -44,8 +44,11 @@ starts_within h asked i {blocks} some eb less =
     omega arith
 
 -- and what is asked ends with the last of them
-pub ends_within : (h asked : ℕ) {blocks : ℕ} → 0 < h → blocks ≡ asked / h + min 1 (asked % h) → asked ≤ blocks * h
-ends_within h asked some eb = rw eb (div_ceil_times asked h some).0
+pub ends_within : (h asked i : ℕ) {blocks : ℕ} → 0 < h → blocks ≡ asked / h + min 1 (asked % h) → blocks ≤ i → asked ≤ i * h
+ends_within h asked i {blocks} some eb all =
+    let t : asked ≤ blocks * h = rw eb (div_ceil_times asked h some).0 in
+    let m : blocks * h ≤ i * h = mul-le-mul_right h all in
+    omega arith
 
 pub next_place : (h asked i n : ℕ) → i * h < asked → n ≡ min h (asked - i * h) → i * h + n ≡ min ((i + 1) * h) asked
 next_place h asked i n less en =

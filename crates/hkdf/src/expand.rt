@@ -32,6 +32,7 @@ fn next_block(suite: u16, k: &Keyed, t: &[u8], info: &[&[u8]], i: u8) -> [u8; 48
 
 // Writes the asked bytes for an info in its parts, a block at a time, each at its own place, the last cut short. The caller
 // prepares the key, so that this frame is not on the stack meanwhile.
+#[tactic(auto, using(crate::proofs::Values::some_hash))]
 pub(crate) fn fill(suite: u16, k: &Keyed, info: &[&[u8]], asked: usize, out: &mut [u8])
     requires { (length (flat_map (λ part. part.now) info.now) ≤ 1024) × (asked ≤ 255 * hash_length suite) × (asked ≤ length out.old) }
     ensures { (secret : List ℕ) → k.now ≡ keyed_of suite secret → out.new ≡ fronted (expand suite secret (flat_map (λ part. part.now) info.now) asked) out.old }

@@ -38,7 +38,7 @@ pub(crate) fn expand(
     let sizes = Suite::hash_len(suite)..=Suite::block_len(suite);
     refuse_if(!Suite::is_known(suite), Refusal::Unknown)?;
     refuse_if(!sizes.contains(&secret), Refusal::SecretSize)?;
-    let outside = MAX_INFO < info || !can_ask(suite, asked);
+    let outside = (MAX_INFO < info) | !can_ask(suite, asked);
     refuse_if(outside, Refusal::OutOfRange)?;
     refuse_if(room < asked, Refusal::OutputTooShort)
 }
@@ -56,7 +56,7 @@ pub(crate) fn expand_label(
 {
     refuse_if(!Suite::is_known(suite), Refusal::Unknown)?;
     refuse_if(secret != Suite::hash_len(suite), Refusal::SecretSize)?;
-    let outside = !can_label(label) || MAX_CONTEXT < context || !can_ask(suite, asked);
+    let outside = !can_label(label) | (MAX_CONTEXT < context) | !can_ask(suite, asked);
     refuse_if(outside, Refusal::OutOfRange)?;
     refuse_if(room < asked, Refusal::OutputTooShort)
 }

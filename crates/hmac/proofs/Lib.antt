@@ -1,2 +1,3 @@
 pub mod Pads
+pub mod Parts
 pub mod Prepared

@@ -49,7 +49,7 @@ impl Keyed {
 
     // HMAC of a message in its parts, in 48 bytes with zeros behind it. Apart from its callers, so that their frames stay small.
     #[inline(never)]
-    #[tactic(auto, unfolding(crate::specs::Keyed::mac_of))]
+    #[tactic(auto, using(crate::proofs::Parts::runs), unfolding(crate::specs::Keyed::mac_of))]
     pub fn mac(&self, suite: u16, message: &[&[u8]]) -> [u8; 48]
         ensures { result ≡ mac_of suite self.now (flat_map (λ part. part.now) message.now) }
     {

@@ -1,12 +1,9 @@
 use Rattle.hkdf.proofs.Filling.{starts_within, ends_within, next_place, start, start-bytes, turn, turn-bytes, done}
 use Rattle.hkdf.proofs.Labels.{block_under}
 use Rattle.hkdf.proofs.Values.{some_hash}
-use Rattle.std.proofs.Common.{◌≡◌, ℕ, ◌+◌, ◌*◌, ◌<◌, ◌≤◌, min, length, take, ap, zero-mul, arith, length-take}
+use Rattle.std.proofs.Common.{◌≡◌, ℕ, ◌+◌, ◌*◌, ◌<◌, ◌≤◌, min, length, take, zero-mul, arith, length-take}
 use Rattle.std.specs.List.{flat_map}
 use Rattle.hkdf.proofs.expand.fill.Goals as goal
-
-pub div_ceil-i-end-requires : goal.div_ceil-i-end-requires
-div_ceil-i-end-requires c = omega (arith, some_hash c.args.suite, c.hash_len-h.ensures.0)
 
 pub loop-i-init : goal.loop-i-init
 loop-i-init c =
@@ -29,7 +26,7 @@ loop-i-preserved c =
     let wide : length y.result ≡ 48 = omega arith in
     let less = c.min-n.ensures in
     let put = c.put.ensures.1 in
-    let lt : l.i * h < a.asked = starts_within h a.asked l.i (omega (arith, c.hash_len-h.ensures.0)) c.div_ceil-i-end.ensures c.loop-i-test.true in
+    let lt : l.i * h < a.asked = starts_within h a.asked l.i (omega (arith, c.hash_len-h.ensures.0)) (omega arith) c.loop-i-test.true in
     let e : min (l.i * h) a.asked ≡ l.i * h = omega arith in
     let g : l.i * h + n ≡ min ((l.i + 1) * h) a.asked = next_place h a.asked l.i n lt less in
     let f = rw e at i.0 in
@@ -41,7 +38,5 @@ returns c = λ secret ek.
     let i = l.invariant in
     let h = c.hash_len-h.result in
     let some = some_hash c.args.suite in
-    let t = ends_within h c.args.asked (omega (arith, c.hash_len-h.ensures.0)) c.div_ceil-i-end.ensures in
-    let e : l.i ≡ c.div_ceil-i-end.result = omega arith in
-    let m = ap (λ (n : ℕ). n * h) e in
+    let t : c.args.asked ≤ l.i * h = ends_within h c.args.asked l.i (omega (arith, c.hash_len-h.ensures.0)) (omega arith) c.loop-i-test.false in
     done _ _ _ _ _ _ _ _ _ _ _ i.0 (i.1 secret ek) (omega arith)
