@@ -9,6 +9,8 @@ use session::Session;
 use traffic::{messages_hash, verify_data};
 
 // At Early, with a PSK; over the bytes of hello alone, whose length field is not judged. Refusals 1, 3, 7, 8 and 11.
+// Inlined, so that no session lies on the stack for the binder key.
+#[inline(always)]
 pub fn binder(s: Session, hello: &[u8], out: &mut [u8]) -> Answer
     ensures { Done s (Call.Binder hello.now out.old) s (wrote result out.new) }
 {
