@@ -75,7 +75,17 @@ impl Running {
     pub fn digest(self, suite: u16) -> [u8; 48]
         ensures { result ≡ finished (variant_of suite) self }
     {
-        let mut last = self;
+        // By its parts: moved whole, the running hash lies in a caller's frame twice.
+        let Running {
+            state,
+            block,
+            count,
+        } = self;
+        let mut last = Running {
+            state,
+            block,
+            count,
+        };
         last.finish(suite)
     }
 }
