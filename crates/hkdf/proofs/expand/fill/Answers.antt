@@ -1,7 +1,7 @@
 use Rattle.hkdf.proofs.Filling.{starts_within, ends_within, next_place, start, start-bytes, turn, turn-bytes, done}
 use Rattle.hkdf.proofs.Labels.{block_under}
 use Rattle.hkdf.proofs.Values.{some_hash}
-use Rattle.std.proofs.Common.{◌≡◌, ℕ, ◌+◌, ◌*◌, ◌<◌, ◌≤◌, min, length, take, zero-mul, arith, length-take}
+use Rattle.std.proofs.Common.{◌≡◌, ◌+◌, ◌*◌, ◌<◌, ◌≤◌, min, length, take, zero-mul, arith, length-take}
 use Rattle.std.specs.List.{flat_map}
 use Rattle.hkdf.proofs.expand.fill.Goals as goal
 
